@@ -1,0 +1,3 @@
+pub mod Time
+pub mod Duration
+pub mod SignLaws

@@ -1,0 +1,76 @@
+// What other rooms build on and no host calls: these lean on a test that their caller has made, and have a `requires`.
+// `has` is that test.
+ghost use mathlib.Core.Path.{_≡_};
+ghost use Prim.Native.Nat.{_+_, _*_, _≤_, _<_, _^_};
+ghost use lib.ListN.{length};
+ghost use lib.Dec.{leb};
+ghost use Rattle.wire.specs.Le.{leAt, leBytes};
+ghost use Rattle.wire.specs.Room.{patch};
+ghost use Rattle.wire.specs.Fields.{since, just};
+
+// Whether there are k bytes from a place on. Tested by differences, so that no sum wraps.
+pub fn has(s: &[u8], at: usize, k: usize) -> bool
+    ensures { λ r. ⌜ r ≡ leb (at + k) (length (now (s .entry))) ⌝ }
+{
+    if s.len() < at {
+        return false;
+    }
+    if k <= s.len() - at { true } else { false }
+}
+
+// The number in the k bytes at a place. From the top byte down: for a fixed k that is one load.
+pub fn le(s: &[u8], at: usize, k: usize) -> u64
+    requires { ⌜ (k ≤ 8) × (at + k ≤ length (now s)) ⌝ }
+    ensures { λ r. ⌜ (r ≡ leAt (now (s .entry)) at k) × (r < 2 ^ (8 * k)) ⌝ }
+{
+    let mut v: u64 = 0;
+    let mut i = k;
+    while 0 < i {
+        i -= 1;
+        let b = s[at + i];
+        v = v * 256 + b as u64;
+    }
+    v
+}
+
+// A number as k bytes from a place on.
+pub fn put_le(dst: &mut [u8], at: usize, k: usize, v: u64)
+    requires { ⌜ at + k ≤ length (now dst) ⌝ }
+    ensures { λ _. ⌜ now (dst .exit) ≡ patch (now (dst .entry)) at (leBytes k v) ⌝ }
+{
+    let mut rest = v;
+    let mut i = 0;
+    while i < k {
+        dst[at + i] = (rest % 256) as u8;
+        rest = rest / 256;
+        i += 1;
+    }
+}
+
+// The bytes of src from a place on.
+pub fn copy(dst: &mut [u8], at: usize, src: &[u8])
+    requires { ⌜ at + length (now src) ≤ length (now dst) ⌝ }
+    ensures { λ _. ⌜ now (dst .exit) ≡ patch (now (dst .entry)) at (now (src .entry)) ⌝ }
+{
+    let mut i = 0;
+    while i < src.len() {
+        dst[at + i] = src[i];
+        i += 1;
+    }
+}
+
+// A field of a date or time: k bytes at a place if there are so many bytes or more, else 0.
+pub fn field_since(b: &[u8], least: usize, at: usize, k: usize) -> u64
+    requires { ⌜ (k ≤ 8) × (at + k ≤ least) ⌝ }
+    ensures { λ r. ⌜ (r ≡ since least (now (b .entry)) at k) × (r < 2 ^ (8 * k)) ⌝ }
+{
+    if least <= b.len() { le(b, at, k) } else { 0 }
+}
+
+// The same, if there are exactly so many bytes.
+pub fn field_just(b: &[u8], size: usize, at: usize, k: usize) -> u64
+    requires { ⌜ (k ≤ 8) × (at + k ≤ size) ⌝ }
+    ensures { λ r. ⌜ (r ≡ just size (now (b .entry)) at k) × (r < 2 ^ (8 * k)) ⌝ }
+{
+    if b.len() == size { le(b, at, k) } else { 0 }
+}
