@@ -6,15 +6,15 @@ use Rattle.refusal.specs.Number.{number-same}
 use Rattle.refusal.specs.Said.{gives, gives-same, refused-same, gives-not-refused}
 use Rattle.wire.specs.Le.{numSaid, numAt}
 use Rattle.wire.specs.LenEnc.{intSaid, lenAt, strSaid, strAt, byteStrAt}
-use Rattle.wire.specs.Room.{putSaid, Wrote}
+use Rattle.wire.specs.Room.{Wrote}
+use Rattle.wire.specs.RoomLaws.{wrote-same}
+use Rattle.wire.specs.declared.Put.{Put}
 use Rattle.wire.specs.declared.ReadNum.{ReadNum}
 use Rattle.wire.specs.declared.ReadNum.the-variants as M
 use Rattle.wire.specs.declared.ReadInt.{ReadInt}
 use Rattle.wire.specs.declared.ReadInt.the-variants as I
 use Rattle.wire.specs.declared.ReadStr.{ReadStr}
 use Rattle.wire.specs.declared.ReadStr.the-variants as S
-use Rattle.wire.specs.declared.Put.{Put}
-use Rattle.wire.specs.declared.Put.the-variants as P
 
 -- ---- what an answer says determines it
 
@@ -36,12 +36,6 @@ str-same (S.Done m) (S.Refused q) e = absurd (gives-not-refused e)
 str-same (S.Refused r) (S.Done n) e = absurd (gives-not-refused (sym e))
 str-same (S.Refused r) (S.Refused q) e = ap S.Refused (number-same r q (refused-same e))
 
-pub put-same : (a b : Put) → putSaid a ≡ putSaid b → a ≡ b
-put-same (P.Next m) (P.Next n) e = ap P.Next (gives-same e)
-put-same (P.Next m) (P.Refused q) e = absurd (gives-not-refused e)
-put-same (P.Refused r) (P.Next n) e = absurd (gives-not-refused (sym e))
-put-same (P.Refused r) (P.Refused q) e = ap P.Refused (number-same r q (refused-same e))
-
 -- ---- the entries
 
 -- `checked_eat_u8`, `checked_eat_u16_le`, `checked_eat_u24_le`, `checked_eat_u32_le`, `checked_eat_u64_le`: over the width
@@ -62,4 +56,4 @@ byte-str s at a b e f = str-same a b (e ∙ sym f)
 
 -- every writer: `put_u8` to `put_u64_le`, `put_lenenc_int`, `put_lenenc_str`, `put_slice`
 pub writers : (bs d : List ℕ) (at : ℕ) (a b : Put) (d₁ d₂ : List ℕ) → Wrote bs d at a d₁ → Wrote bs d at b d₂ → (a ≡ b) × (d₁ ≡ d₂)
-writers bs d at a b d₁ d₂ v w = (put-same a b (v .said ∙ sym (w .said)), v .left ∙ sym (w .left))
+writers bs d at a b d₁ d₂ v w = wrote-same v w

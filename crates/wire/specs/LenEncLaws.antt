@@ -157,7 +157,7 @@ within-by s at n p true t e =
     rw (← q) (leb-true (at + n) (length s) t)
 within-by s at n p false t e = let z : _≡_ {A = ℕ} 0 1 = cc e in absurd (omega arith)
 
-within-fits : (s : List ℕ) (at n : ℕ) (p : LenEncStr) → within s at n ≡ gives p → p .at + p .len ≤ length s
+pub within-fits : (s : List ℕ) (at n : ℕ) (p : LenEncStr) → within s at n ≡ gives p → p .at + p .len ≤ length s
 within-fits s at n p e = within-by s at n p (leb (at + n) (length s)) refl e
 
 str-by : (s : List ℕ) (p : LenEncStr) (l : Said LenEncInt) → andThen l (λ n. within s (n .next) (n .value)) ≡ gives p → p .at + p .len ≤ length s

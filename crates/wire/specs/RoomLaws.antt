@@ -10,11 +10,14 @@ use lib.Seq.{paste, take-length, sets, sets-eq, take-at, drop-at, drop-append-ad
 use borrow.Author.Tests.{le-leb, lt-leb, leb-true, leb-false}
 use mathlib.Core.Bool.{Bool, true, false}
 use lib.Dec.{leb}
-use Rattle.refusal.specs.Said.{gives}
+use Rattle.refusal.specs.Number.{number-same}
+use Rattle.refusal.specs.Said.{gives, gives-same, refused-same, gives-not-refused}
 use Rattle.refusal.specs.declared.Refusal.the-variants.{NoRoom}
-use Rattle.wire.specs.Room.{patch, Wrote, putSaid}
+use Rattle.wire.specs.Room.{patch, Wrote, putSaid, neededSaid}
 use Rattle.wire.specs.declared.Put.{Put}
 use Rattle.wire.specs.declared.Put.the-variants.{Next, Refused}
+use Rattle.wire.specs.declared.Needed.{Needed}
+use Rattle.wire.specs.declared.Needed.the-variants as N
 
 -- a copy that has come to its end
 pub paste-patch : (d : List ℕ) (at : ℕ) (bs : List ℕ) (n : ℕ) → length bs ≡ n → paste d at bs n ≡ patch d at bs
@@ -64,3 +67,20 @@ has-yes a n e t = leb-true a n (sym e ∙ t)
 
 pub has-no : {r : Bool} (a n : ℕ) → r ≡ leb a n → r ≡ false → n < a
 has-no a n e t = leb-false a n (sym e ∙ t)
+
+-- ---- what an answer says determines it, and a contract what it leaves
+
+pub put-same : (a b : Put) → putSaid a ≡ putSaid b → a ≡ b
+put-same (Next m) (Next n) e = ap Next (gives-same e)
+put-same (Next m) (Refused q) e = absurd (gives-not-refused e)
+put-same (Refused r) (Next n) e = absurd (gives-not-refused (sym e))
+put-same (Refused r) (Refused q) e = ap Refused (number-same r q (refused-same e))
+
+pub needed-same : (a b : Needed) → neededSaid a ≡ neededSaid b → a ≡ b
+needed-same (N.Bytes m) (N.Bytes n) e = ap N.Bytes (gives-same e)
+needed-same (N.Bytes m) (N.Refused q) e = absurd (gives-not-refused e)
+needed-same (N.Refused r) (N.Bytes n) e = absurd (gives-not-refused (sym e))
+needed-same (N.Refused r) (N.Refused q) e = ap N.Refused (number-same r q (refused-same e))
+
+pub wrote-same : {bs d : List ℕ} {at : ℕ} {a b : Put} {d₁ d₂ : List ℕ} → Wrote bs d at a d₁ → Wrote bs d at b d₂ → (a ≡ b) × (d₁ ≡ d₂)
+wrote-same {a = a} {b = b} v w = (put-same a b (v .said ∙ sym (w .said)), v .left ∙ sym (w .left))

@@ -7,7 +7,7 @@
 use refusal::Refusal;
 ghost use mathlib.Core.Path.{_≡_};
 ghost use mathlib.Core.List.{_∷_};
-ghost use Prim.Native.Nat.{_+_, _≤_};
+ghost use Prim.Native.Nat.{_+_, _≤_, _<_, _^_};
 ghost use lib.ListN.{length};
 ghost use Rattle.wire.specs.Le.{numAt, numSaid, leBytes};
 ghost use Rattle.wire.specs.LenEnc.{intSaid, lenAt, led, lenBytes, strSaid, strAt, byteStrAt, within, strBytes, partOf};
@@ -232,6 +232,13 @@ pub fn lenenc_int_len(v: u64) -> usize
 }
 
 // ---- strings
+
+// How many bytes `put_lenenc_str` takes for a string. No sum wraps: no slice is half so long.
+pub fn lenenc_str_len(s: &[u8]) -> usize
+    ensures { λ r. ⌜ (r ≡ length (strBytes (now (s .entry)))) × (r < 2 ^ 64) ⌝ }
+{
+    lenenc_int_len(s.len() as u64) + s.len()
+}
 
 // The part of n bytes at a place, if the bytes have it.
 fn eat_within(s: &[u8], at: usize, n: u64) -> ReadStr

@@ -1,0 +1,4 @@
+pub mod Quote
+pub mod QuoteLaws
+pub mod Meaning
+pub mod MeaningLaws

@@ -1,0 +1,4 @@
+pub mod Record
+pub mod RecordLaws
+pub mod RoundTrip
+pub mod RoundTripLaws
