@@ -10,6 +10,15 @@ use Rattle.wire.specs.LenEnc.{lenBytes, byteStrAt, partOf}
 use Rattle.wire.specs.Fields.{since, just}
 use Rattle.duration.specs.Time.{timeAt, timeOf}
 use Rattle.duration.specs.Duration.{durationOf, durationAt}
+use Rattle.escape.specs.Quote.{behind, becomes, body, quoted}
+use Rattle.value.specs.Kinds.{kindOf}
+use Rattle.value.specs.Dates.{dateOf}
+use Rattle.value.specs.Read.{binAt, skipAt}
+use Rattle.value.specs.declared.Value.the-variants as Of
+use Rattle.row.specs.Nulls.{nullBit, nullCount, nullAt, countAt}
+use Rattle.row.specs.Walk.{colAt, walk}
+use Rattle.row.specs.Row.{valuesOf, rowOf}
+use Rattle.row.specs.declared.Side.the-variants.{ServerSide}
 
 pub record Marked : Type 0 where
   -- 250: FA; 251: FC FB 00
@@ -27,7 +36,38 @@ pub record Marked : Type 0 where
       durationOf (record { neg = true; days = 106751991; hours = 4; minutes = 0; seconds = 54; micros = 775807 })
       ≡ gives (negsuc 9223372036854775806)
   pub E7-more : durationOf (record { neg = false; days = 106751991; hours = 4; minutes = 0; seconds = 54; micros = 775808 }) ≡ refused 11
+  -- date 05 E8 07 02 1D FF: 2024-02-29, six bytes used
+  pub E8 :
+      binAt (0x05 ∷ 0xE8 ∷ 0x07 ∷ 0x02 ∷ 0x1D ∷ 0xFF ∷ []) 0 10 false
+      ≡ gives (record { value = Of.Date (record { year = 2024; month = 2; day = 29; hour = 0; minutes = 0; seconds = 0; micros = 0 }); next = 6 })
+  -- `a'b` in other mode: 27 61 27 27 62 27
+  pub E9 : quoted true (0x61 ∷ 0x27 ∷ 0x62 ∷ []) ≡ 0x27 ∷ 0x61 ∷ 0x27 ∷ 0x27 ∷ 0x62 ∷ 0x27 ∷ []
+  -- ten columns, bitmap 04 08: columns 0 and 9 NULL, count 2
+  pub E10-0 : nullAt (0x04 ∷ 0x08 ∷ []) ServerSide 0 ≡ gives true
+  pub E10-9 : nullAt (0x04 ∷ 0x08 ∷ []) ServerSide 9 ≡ gives true
+  pub E10-count : countAt (0x04 ∷ 0x08 ∷ []) ServerSide 10 ≡ gives 2
+  -- and as a row of ten one-byte columns into a list of twelve: eleven bytes used, the two numbers past the ten stay
+  pub E10-row :
+      rowOf
+      (0x00 ∷ 0x04 ∷ 0x08 ∷ 11 ∷ 12 ∷ 13 ∷ 14 ∷ 15 ∷ 16 ∷ 17 ∷ 18 ∷ [])
+      (1 ∷ 1 ∷ 1 ∷ 1 ∷ 1 ∷ 1 ∷ 1 ∷ 1 ∷ 1 ∷ 1 ∷ [])
+      (0 ∷ 0 ∷ 0 ∷ 0 ∷ 0 ∷ 0 ∷ 0 ∷ 0 ∷ 0 ∷ 0 ∷ [])
+      (7 ∷ 7 ∷ 7 ∷ 7 ∷ 7 ∷ 7 ∷ 7 ∷ 7 ∷ 7 ∷ 7 ∷ 7 ∷ 7 ∷ [])
+      ≡ record { said = gives (record { nulls = 2; used = 11 }); starts = 3 ∷ 3 ∷ 4 ∷ 5 ∷ 6 ∷ 7 ∷ 8 ∷ 9 ∷ 10 ∷ 11 ∷ 7 ∷ 7 ∷ [] }
 
 pub marked : Marked
-unfolding lenBytes leBytes leOf byteStrAt partOf since just timeAt timeOf durationOf durationAt
-marked = record { E5-250 = refl; E5-251 = refl; E6 = refl; E7-most = refl; E7-minus = refl; E7-more = refl }
+unfolding lenBytes leBytes leOf byteStrAt partOf since just timeAt timeOf durationOf durationAt behind becomes body quoted kindOf dateOf binAt skipAt nullBit nullCount nullAt countAt colAt walk valuesOf rowOf
+marked = record {
+  E5-250 = refl;
+  E5-251 = refl;
+  E6 = refl;
+  E7-most = refl;
+  E7-minus = refl;
+  E7-more = refl;
+  E8 = refl;
+  E9 = refl;
+  E10-0 = refl;
+  E10-9 = refl;
+  E10-count = refl;
+  E10-row = refl;
+}

@@ -1,0 +1,4 @@
+pub mod BitLaws
+pub mod WalkLaws
+pub mod EndLaws
+pub mod Unique

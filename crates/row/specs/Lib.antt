@@ -1,0 +1,4 @@
+pub mod Nulls
+pub mod Walk
+pub mod Row
+pub mod RowLaws

@@ -1,0 +1,4 @@
+pub mod NumberLaws
+pub mod ReadLaws
+pub mod WriteLaws
+pub mod Unique

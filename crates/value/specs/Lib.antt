@@ -1,0 +1,7 @@
+pub mod Kinds
+pub mod Numbers
+pub mod Dates
+pub mod DateLaws
+pub mod Read
+pub mod Write
+pub mod ValueLaws
