@@ -2,7 +2,7 @@
 -- computation alone.
 use mathlib.Core.Path.{_≡_, refl}
 use mathlib.Core.Bool.{true, false}
-use mathlib.Core.List.{List, [], _∷_}
+use mathlib.Core.List.{List, [], _∷_, flatten}
 use lib.IntN.{pos, negsuc}
 use Rattle.refusal.specs.Said.{gives, refused}
 use Rattle.wire.specs.Le.{leOf, leBytes}
@@ -18,9 +18,21 @@ use Rattle.value.specs.declared.Value.the-variants as Of
 use Rattle.row.specs.Nulls.{nullBit, nullCount, nullAt, countAt}
 use Rattle.row.specs.Walk.{colAt, walk}
 use Rattle.row.specs.Row.{valuesOf, rowOf}
+use Rattle.chunk.specs.Chunks.{next, chunk, cut, pieces, numbered, chunksOf, chunks, after}
 use Rattle.row.specs.declared.Side.the-variants.{ServerSide}
 
 pub record Marked : Type 0 where
+  -- m=3, number 254, ABCDEFG: 03 00 00 FE 41 42 43 03 00 00 FF 44 45 46 01 00 00 00 47, next 1
+  pub E1 :
+      chunks 3 254 (0x41 ∷ 0x42 ∷ 0x43 ∷ 0x44 ∷ 0x45 ∷ 0x46 ∷ 0x47 ∷ [])
+      ≡ 0x03 ∷ 0x00 ∷ 0x00 ∷ 0xFE ∷ 0x41 ∷ 0x42 ∷ 0x43 ∷ 0x03 ∷ 0x00 ∷ 0x00 ∷ 0xFF ∷ 0x44 ∷ 0x45 ∷ 0x46 ∷ 0x01 ∷ 0x00 ∷ 0x00 ∷ 0x00 ∷ 0x47 ∷ []
+  pub E1-next : after 3 254 7 ≡ 1
+  -- m=3, 254, ABC: 03 00 00 FE 41 42 43 00 00 00 FF, next 0
+  pub E2 : chunks 3 254 (0x41 ∷ 0x42 ∷ 0x43 ∷ []) ≡ 0x03 ∷ 0x00 ∷ 0x00 ∷ 0xFE ∷ 0x41 ∷ 0x42 ∷ 0x43 ∷ 0x00 ∷ 0x00 ∷ 0x00 ∷ 0xFF ∷ []
+  pub E2-next : after 3 254 3 ≡ 0
+  -- m=3, number 5, empty: 00 00 00 05, next 6
+  pub E3 : chunks 3 5 [] ≡ 0x00 ∷ 0x00 ∷ 0x00 ∷ 0x05 ∷ []
+  pub E3-next : after 3 5 0 ≡ 6
   -- 250: FA; 251: FC FB 00
   pub E5-250 : lenBytes 250 ≡ 0xFA ∷ []
   pub E5-251 : lenBytes 251 ≡ 0xFC ∷ 0xFB ∷ 0x00 ∷ []
@@ -56,8 +68,14 @@ pub record Marked : Type 0 where
       ≡ record { said = gives (record { nulls = 2; used = 11 }); starts = 3 ∷ 3 ∷ 4 ∷ 5 ∷ 6 ∷ 7 ∷ 8 ∷ 9 ∷ 10 ∷ 11 ∷ 7 ∷ 7 ∷ [] }
 
 pub marked : Marked
-unfolding lenBytes leBytes leOf byteStrAt partOf since just timeAt timeOf durationOf durationAt behind becomes body quoted kindOf dateOf binAt skipAt nullBit nullCount nullAt countAt colAt walk valuesOf rowOf
+unfolding lenBytes leBytes leOf byteStrAt partOf since just timeAt timeOf durationOf durationAt behind becomes body quoted kindOf dateOf binAt skipAt nullBit nullCount nullAt countAt colAt walk valuesOf rowOf chunks chunksOf pieces cut numbered chunk flatten next after
 marked = record {
+  E1 = refl;
+  E1-next = refl;
+  E2 = refl;
+  E2-next = refl;
+  E3 = refl;
+  E3-next = refl;
   E5-250 = refl;
   E5-251 = refl;
   E6 = refl;

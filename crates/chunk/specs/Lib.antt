@@ -1,0 +1,9 @@
+pub mod Chunks
+pub mod ChunksLaws
+pub mod Read
+pub mod ReadLaws
+pub mod Write
+pub mod WriteLaws
+pub mod RoundLaws
+pub mod ResumeLaws
+pub mod KeepsLaws
