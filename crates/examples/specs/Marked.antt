@@ -18,8 +18,31 @@ use Rattle.value.specs.declared.Value.the-variants as Of
 use Rattle.row.specs.Nulls.{nullBit, nullCount, nullAt, countAt}
 use Rattle.row.specs.Walk.{colAt, walk}
 use Rattle.row.specs.Row.{valuesOf, rowOf}
-use Rattle.chunk.specs.Chunks.{next, chunk, cut, pieces, numbered, chunksOf, chunks, after}
+use Rattle.chunk.specs.Read as P
+use Rattle.chunk.specs.Read.{turnFrom, turnOf, turns, opened, read}
+use Rattle.frame.specs.Codec.{closed, unreadOf}
+use Rattle.frame.specs.Read.{headed, frameFrom, frameAt, drained, lapAt, laps, running, readFramed}
+use Rattle.frame.specs.declared.PacketCodec.{PacketCodec}
+use Rattle.chunk.specs.Chunks.{largest, next, chunk, cut, pieces, numbered, chunksOf, chunks, after}
 use Rattle.row.specs.declared.Side.the-variants.{ServerSide}
+
+-- a codec with frames on, as it is opened
+abbrev pub framed : PacketCodec
+framed = record {
+  limit = 61440;
+  taken = 0;
+  len = 0;
+  unread = 0;
+  size = 0;
+  number = 0;
+  waiting = false;
+  ahead = 0;
+  closed = false;
+  frame = 0;
+  held = false;
+  coming = 0;
+  framed = true;
+}
 
 pub record Marked : Type 0 where
   -- m=3, number 254, ABCDEFG: 03 00 00 FE 41 42 43 03 00 00 FF 44 45 46 01 00 00 00 47, next 1
@@ -33,6 +56,10 @@ pub record Marked : Type 0 where
   -- m=3, number 5, empty: 00 00 00 05, next 6
   pub E3 : chunks 3 5 [] ≡ 0x00 ∷ 0x00 ∷ 0x00 ∷ 0x05 ∷ []
   pub E3-next : after 3 5 0 ≡ 6
+  -- frame header 00 00 00 07 01 00 00: 4
+  pub E4 :
+      readFramed largest framed (0x00 ∷ 0x00 ∷ 0x00 ∷ 0x07 ∷ 0x01 ∷ 0x00 ∷ 0x00 ∷ []) [] []
+      ≡ record { answer = P.refused 4; used = 0; next = closed framed; unread = []; buf = [] }
   -- 250: FA; 251: FC FB 00
   pub E5-250 : lenBytes 250 ≡ 0xFA ∷ []
   pub E5-251 : lenBytes 251 ≡ 0xFC ∷ 0xFB ∷ 0x00 ∷ []
@@ -68,7 +95,7 @@ pub record Marked : Type 0 where
       ≡ record { said = gives (record { nulls = 2; used = 11 }); starts = 3 ∷ 3 ∷ 4 ∷ 5 ∷ 6 ∷ 7 ∷ 8 ∷ 9 ∷ 10 ∷ 11 ∷ 7 ∷ 7 ∷ [] }
 
 pub marked : Marked
-unfolding lenBytes leBytes leOf byteStrAt partOf since just timeAt timeOf durationOf durationAt behind becomes body quoted kindOf dateOf binAt skipAt nullBit nullCount nullAt countAt colAt walk valuesOf rowOf chunks chunksOf pieces cut numbered chunk flatten next after
+unfolding lenBytes leBytes leOf byteStrAt partOf since just timeAt timeOf durationOf durationAt behind becomes body quoted kindOf dateOf binAt skipAt nullBit nullCount nullAt countAt colAt walk valuesOf rowOf chunks chunksOf pieces cut numbered chunk flatten next after turnFrom turnOf turns opened read unreadOf headed frameFrom frameAt drained lapAt laps running readFramed
 marked = record {
   E1 = refl;
   E1-next = refl;
@@ -76,6 +103,7 @@ marked = record {
   E2-next = refl;
   E3 = refl;
   E3-next = refl;
+  E4 = refl;
   E5-250 = refl;
   E5-251 = refl;
   E6 = refl;

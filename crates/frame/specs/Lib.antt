@@ -1,0 +1,13 @@
+pub mod Frames
+pub mod FramesLaws
+pub mod Codec
+pub mod Read
+pub mod ReadLaws
+pub mod StagingLaws
+pub mod CalmLaws
+pub mod PackedLaws
+pub mod TolerantLaws
+pub mod RoundLaws
+pub mod ResumeLaws
+pub mod Write
+pub mod WriteLaws
