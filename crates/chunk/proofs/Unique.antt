@@ -1,16 +1,16 @@
 -- Any two results that a contract allows are equal, and so are the buffers at exit: no two answers say the same.
-use mathlib.Core.Path.{_≡_, refl, sym, ap, _∙_}
+use mathlib.Core.Path.{_≡_, sym, ap, _∙_}
 use mathlib.Core.List.{List}
 use Prim.Native.Nat.{ℕ}
 use lib.ListN.{length}
-use Rattle.refusal.specs.Number.{number, number-same}
-use Rattle.refusal.specs.Said.{gives-same, refused-same}
+use Rattle.refusal.specs.Number.{number-same}
 use Rattle.refusal.specs.declared.Refusal.{Refusal}
-use Rattle.wire.specs.Room.{patch, putSaid}
+use Rattle.wire.specs.Room.{patch}
 use Rattle.wire.specs.RoomLaws.{put-same}
 use Rattle.wire.specs.declared.Put.{Put}
 use Rattle.chunk.specs.Chunks.{largest, chunks, after}
-use Rattle.chunk.specs.Read.{Answered, Opening, opening, openedSaid, Done, answerSaid, doneOf, read, renumbered}
+use Rattle.chunk.specs.Read.{opening, openedSaid, Done, doneOf, read, renumbered}
+use Rattle.chunk.specs.ReadLaws.{answer-same}
 use Rattle.chunk.specs.Write.{Sent, sentOf, write}
 use Rattle.chunk.specs.declared.PlainPacketCodec.{PlainPacketCodec}
 use Rattle.chunk.specs.declared.Tolerance.{Tolerance}
@@ -18,22 +18,10 @@ use Rattle.chunk.specs.declared.Tolerance.the-variants.{Strict}
 use Rattle.chunk.specs.declared.Opened.{Opened}
 use Rattle.chunk.specs.declared.Opened.the-variants as O
 use Rattle.chunk.specs.declared.Answer.{Answer}
-use Rattle.chunk.specs.declared.Answer.the-variants as A
 use Rattle.chunk.specs.declared.Decoded.{Decoded}
 use Rattle.chunk.specs.declared.Encoded.{Encoded}
 
 -- ---- the readers
-
-answer-same : (a a′ : Answer) → answerSaid a ≡ answerSaid a′ → a ≡ a′
-answer-same A.NeedMore A.NeedMore e = refl
-answer-same A.NeedMore (A.Packet n) e = cc e
-answer-same A.NeedMore (A.Refused r) e = cc e
-answer-same (A.Packet n) A.NeedMore e = cc e
-answer-same (A.Packet n) (A.Packet n′) e = ap A.Packet (cc e)
-answer-same (A.Packet n) (A.Refused r) e = cc e
-answer-same (A.Refused r) A.NeedMore e = cc e
-answer-same (A.Refused r) (A.Packet n) e = cc e
-answer-same (A.Refused r) (A.Refused r′) e = ap A.Refused (number-same r r′ (cc e))
 
 decoded-same : {a a′ : Answer} {n n′ : ℕ} {st st′ : PlainPacketCodec} → a ≡ a′ → n ≡ n′ → st ≡ st′
     → _≡_ {A = Decoded} (record { answer = a; used = n; next = st }) (record { answer = a′; used = n′; next = st′ })

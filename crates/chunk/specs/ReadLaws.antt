@@ -9,11 +9,14 @@ use Prim.Native.Nat.{ℕ, zero, suc, _+_, _≤_, _<_}
 use lib.ListN.{length, take, drop, getD, length-drop}
 use lib.Dec.{ltb, eqb}
 use borrow.Author.Tests.{ltb-false, lt-ltb, le-ltb, eq-eqb, ne-eqb}
+use Rattle.refusal.specs.Number.{number-same}
 use Rattle.wire.specs.Le.{leAt}
 use Rattle.wire.specs.Room.{patch}
 use Rattle.chunk.specs.declared.PlainPacketCodec.{PlainPacketCodec}
 use Rattle.chunk.specs.declared.Tolerance.{Tolerance}
-use Rattle.chunk.specs.Read.{closed, holding, past, Held, none, held, heldOf, Answered, needMore, packet, refused, Done, Turned, stop, took, accepted, chunkAt, headed, turnFrom, turnOf, later, turns, opened, read}
+use Rattle.chunk.specs.declared.Answer.{Answer}
+use Rattle.chunk.specs.declared.Answer.the-variants as A
+use Rattle.chunk.specs.Read.{closed, holding, past, Held, none, held, heldOf, Answered, needMore, packet, refused, answerSaid, Done, Turned, stop, took, accepted, chunkAt, headed, turnFrom, turnOf, later, turns, opened, read}
 
 -- ---- one chunk
 
@@ -221,3 +224,16 @@ none-from m x st (held len num) b e = turn-held m x st [] b len num e ∙ chunk-
 
 pub opened-none : (m : ℕ) (x : Tolerance) (st : PlainPacketCodec) (b : List ℕ) → opened m x st [] b ≡ record { answer = needMore; used = 0; next = st; buf = b }
 opened-none m x st b = let e = none-from m x st (heldOf st) b refl in opened-stop m x st [] b (rw e) ∙ rw e
+
+-- ---- what an answer says determines it
+
+pub answer-same : (a a′ : Answer) → answerSaid a ≡ answerSaid a′ → a ≡ a′
+answer-same A.NeedMore A.NeedMore e = refl
+answer-same A.NeedMore (A.Packet n) e = cc e
+answer-same A.NeedMore (A.Refused r) e = cc e
+answer-same (A.Packet n) A.NeedMore e = cc e
+answer-same (A.Packet n) (A.Packet n′) e = ap A.Packet (cc e)
+answer-same (A.Packet n) (A.Refused r) e = cc e
+answer-same (A.Refused r) A.NeedMore e = cc e
+answer-same (A.Refused r) (A.Packet n) e = cc e
+answer-same (A.Refused r) (A.Refused r′) e = ap A.Refused (number-same r r′ (cc e))

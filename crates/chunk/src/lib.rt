@@ -28,17 +28,17 @@ pub const MAX_PAYLOAD_LEN: usize = 16_777_215;
 // The largest limit that an opening takes.
 pub const MAX_LIMIT: usize = 1_073_741_824;
 
-// The state of one end. The four small fields stand together, so that it is copied without padding. With `waiting`, the
-// header of a chunk of `len` bytes with the number `ahead` is remembered, and its chunk not taken yet; `taken` counts the
-// bytes of the current packet.
+// The state of one end. The four small fields stand together, so that it is copied without padding, and `waiting` and `ahead`
+// apart, so that they are not read as one number right after they were written as two. With `waiting`, the header of a chunk of
+// `len` bytes with the number `ahead` is remembered, and its chunk not taken yet; `taken` counts the bytes of the current packet.
 pub struct PlainPacketCodec {
     pub limit: usize,
     pub taken: usize,
     pub len: usize,
-    pub number: u8,
     pub waiting: bool,
-    pub ahead: u8,
+    pub number: u8,
     pub closed: bool,
+    pub ahead: u8,
 }
 
 // A state to begin with. A refused opening gives a closed one.

@@ -1,17 +1,13 @@
 -- Any two results that a contract allows are equal, and so are the buffers at exit: no two answers say the same. Of staging the unread
 -- bytes are meant; what stands behind them is the listed exception.
-use mathlib.Core.Path.{_≡_, refl, sym, ap, _∙_}
+use mathlib.Core.Path.{_≡_, sym, ap, _∙_}
 use mathlib.Core.List.{List}
 use Prim.Native.Nat.{ℕ}
-use Rattle.refusal.specs.Number.{number, number-same}
-use Rattle.refusal.specs.Said.{gives-same, refused-same}
-use Rattle.wire.specs.Room.{putSaid}
+use Rattle.wire.specs.RoomLaws.{put-same}
 use Rattle.wire.specs.declared.Put.{Put}
-use Rattle.wire.specs.declared.Put.the-variants as P
 use Rattle.chunk.specs.Chunks.{largest}
-use Rattle.chunk.specs.Read.{answerSaid}
+use Rattle.chunk.specs.ReadLaws.{answer-same}
 use Rattle.chunk.specs.declared.Answer.{Answer}
-use Rattle.chunk.specs.declared.Answer.the-variants as A
 use Rattle.frame.specs.Codec.{unreadOf}
 use Rattle.frame.specs.Read.{Done, doneOf, readFramed}
 use Rattle.frame.specs.Write.{Sent, sentOf, writeFramed}
@@ -20,17 +16,6 @@ use Rattle.frame.specs.declared.FrameDecoded.{FrameDecoded}
 use Rattle.frame.specs.declared.FrameEncoded.{FrameEncoded}
 
 -- ---- decode_framed
-
-answer-same : (a a′ : Answer) → answerSaid a ≡ answerSaid a′ → a ≡ a′
-answer-same A.NeedMore A.NeedMore e = refl
-answer-same A.NeedMore (A.Packet n) e = cc e
-answer-same A.NeedMore (A.Refused r) e = cc e
-answer-same (A.Packet n) A.NeedMore e = cc e
-answer-same (A.Packet n) (A.Packet n′) e = ap A.Packet (cc e)
-answer-same (A.Packet n) (A.Refused r) e = cc e
-answer-same (A.Refused r) A.NeedMore e = cc e
-answer-same (A.Refused r) (A.Packet n) e = cc e
-answer-same (A.Refused r) (A.Refused r′) e = ap A.Refused (number-same r r′ (cc e))
 
 decoded-same : {a a′ : Answer} {n n′ : ℕ} {c c′ : PacketCodec} → a ≡ a′ → n ≡ n′ → c ≡ c′
     → _≡_ {A = FrameDecoded} (record { answer = a; used = n; next = c }) (record { answer = a′; used = n′; next = c′ })
@@ -47,12 +32,6 @@ decode-framed-unique c u s b r r′ s₁ s₂ b₁ b₂ h h′ =
     )
 
 -- ---- encode_framed
-
-put-same : (p p′ : Put) → putSaid p ≡ putSaid p′ → p ≡ p′
-put-same (P.Next n) (P.Next n′) e = ap P.Next (gives-same e)
-put-same (P.Next n) (P.Refused r) e = cc e
-put-same (P.Refused r) (P.Next n) e = cc e
-put-same (P.Refused r) (P.Refused r′) e = ap P.Refused (number-same r r′ (refused-same e))
 
 encoded-same : {p p′ : Put} {c c′ : PacketCodec} → p ≡ p′ → c ≡ c′
     → _≡_ {A = FrameEncoded} (record { put = p; next = c }) (record { put = p′; next = c′ })

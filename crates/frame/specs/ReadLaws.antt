@@ -225,3 +225,55 @@ more-by t false u room e v = (λ _. e, λ z. absurd (z (v .nothing e)))
 
 pub uses-more : (t : Lap) (u : List ℕ) (room : ℕ) → Uses u room t → (t .done .used ≡ 0 → t .more ≡ false) × ((t .done .used ≡ 0 → ⊥) → t .more ≡ true)
 uses-more t u room v = more-by t (t .more) u room refl v
+
+-- ---- no call turns frames on or off
+
+module _ (on : Bool) where
+  abbrev Mode : Lap → Type 0
+  Mode t = t .done .next .framed ≡ on
+
+  body-mode : (c : PacketCodec) (len num : ℕ) (u w : List ℕ) (room : ℕ) (b : List ℕ) → c .framed ≡ on → Mode (bodyAt c len num u w room b)
+  unfolding bodyAt took
+  body-mode c len num u w room b e =
+      by-test Mode (ltb (length u) (len + 7)) (stop needMore c w b) _ (λ _. e)
+      (λ _. by-test Mode (eqb num (c .frame)) _ (stop (refused 3) (closed c) w b)
+      (λ _. by-test Mode (ltb room (c .unread + len)) (stop (refused 6) c w b) (took c len u w b) (λ _. e) (λ _. e))
+      (λ _. e))
+
+  from-mode : (c : PacketCodec) (h : FrameHeld) (u w : List ℕ) (room : ℕ) (b : List ℕ) → c .framed ≡ on → Mode (frameFrom c h u w room b)
+  unfolding frameFrom headed
+  from-mode c none u w room b e =
+      let len : ℕ = leAt u 0 3 in
+      let num : ℕ = getD u 3 0 in
+      let plain : ℕ = leAt u 4 3 in
+      by-test Mode (ltb (length u) 7) (stop needMore c w b) _ (λ _. e)
+      (λ _. by-test Mode (ltb (c .limit) len) (stop (refused 2) (closed c) w b) _ (λ _. e)
+      (λ _. by-test Mode (ltb (c .limit) plain) (stop (refused 2) (closed c) w b) _ (λ _. e)
+      (λ _. by-test Mode (eqb len 0) _ _
+      (λ _. by-test Mode (eqb plain 0) _ (stop (refused 4) (closed c) w b) (λ _. body-mode c 0 num u w room b e) (λ _. e))
+      (λ _. by-test Mode (eqb plain 0) _ (stop (refused 5) (closed c) w b) (λ _. body-mode (holdingFrame c len num) len num u w room b e) (λ _. e)))))
+  from-mode c (held len num) u w room b e = body-mode c len num u w room b e
+
+  lap-mode : (m : ℕ) (c : PacketCodec) (u w : List ℕ) (room : ℕ) (b : List ℕ) → c .framed ≡ on → Mode (lapAt m c u w room b)
+  unfolding lapAt frameAt drained
+  lap-mode m c u w room b e =
+      let d = drained m c w b in
+      by-test Mode (asks (d .answer)) _ _ (λ _. from-mode (d .next) (frameHeldOf (d .next)) u (d .unread) room (d .buf) e) (λ _. e)
+
+  laps-mode : (f m : ℕ) (c : PacketCodec) (u w : List ℕ) (room : ℕ) (b : List ℕ) → c .framed ≡ on → laps f m c u w room b .next .framed ≡ on
+  unfolding laps
+  laps-mode zero m c u w room b e = e
+  laps-mode (suc f) m c u w room b e =
+      let t = lapAt m c u w room b in
+      let k = lap-mode m c u w room b e in
+      by-test (λ (d : Done). d .next .framed ≡ on) (t .more) _ (t .done)
+      (λ _. laps-mode f m (t .done .next) (drop (t .done .used) u) (t .done .unread) room (t .done .buf) k)
+      (λ _. k)
+
+pub framed-mode : (m : ℕ) (c : PacketCodec) (u s b : List ℕ) → readFramed m c u s b .next .framed ≡ c .framed
+unfolding readFramed running
+framed-mode m c u s b =
+    let P : Done → Type 0 = λ d. d .next .framed ≡ c .framed in
+    by-test P (c .closed) (untouched 7 c s b) _ (λ _. refl)
+    (λ _. by-test P (ltb (length s) (c .unread)) (untouched 6 c s b) _ (λ _. refl)
+    (λ _. laps-mode (c .framed) (suc (length u)) m c u (unreadOf c s) (length s) b refl))

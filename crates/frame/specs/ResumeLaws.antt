@@ -1,5 +1,6 @@
 -- Reading in parts: a call that asks for more, and then a call on what it left and what came after, answers what one call on all the
--- bytes would have. Between them the host lends any staging that has the unread bytes at its front.
+-- bytes would have. Between them the host lends any staging that has the unread bytes at its front. A call that does not ask for more
+-- answers the same with more behind.
 use mathlib.Core.Path.{_≡_, refl, sym, ap, _∙_}
 use mathlib.Core.Bool.{Bool, true, false}
 use mathlib.Core.List.{List, [], _++_, append-nil}
@@ -291,6 +292,62 @@ module _ (m : ℕ) (v : List ℕ) (room : ℕ) where
       → Resumes m c u v w room b (running m c u w room b)
   running-resume c u w b g q = go (suc (length u)) c u w b (omega arith) g q
 
+  -- ---- a call that does not ask for more: the same with more behind
+
+  stops-at : (c : PacketCodec) (u w b : List ℕ) (t : Lap) → lapAt m c u w room b ≡ t → t .more ≡ false → running m c u w room b ≡ t .done
+  stops-at c u w b t l e = running-stop m c u w room b (rw l e) ∙ ap (λ (x : Lap). x .done) l
+
+  abbrev Fixed : PacketCodec → (u w b : List ℕ) → Type 0
+  Fixed c u w b = (running m c u w room b .answer ≡ needMore → ⊥) → running m c (u ++ v) w room b ≡ running m c u w room b
+
+  fixed-by : (c : PacketCodec) (u w b : List ℕ) (g : c .unread ≤ room) (a : asks (drained m c w b .answer) ≡ true)
+      → (t c u w b g a .more ≡ true
+      → Fixed (t c u w b g a .done .next) (drop (t c u w b g a .done .used) u) (t c u w b g a .done .unread) (t c u w b g a .done .buf))
+      → (k : Bool) → t c u w b g a .more ≡ k
+      → Grows (d c u w b g a .next) u v (d c u w b g a .unread) room (d c u w b g a .buf) (t c u w b g a)
+      → Fixed c u w b
+  fixed-by c u w b g a ih k e (waits c′ x p f n y) q =
+      let l : lapAt m c u w room b ≡ stop needMore c′ (d c u w b g a .unread) (d c u w b g a .buf) = lap-is c u w b g a ∙ x in
+      let o : running m c u w room b .answer ≡ needMore = rw (running-stop m c u w room b (rw l)) (rw l) in
+      absurd (q o)
+  fixed-by c u w b g a ih true e (on x s) q =
+      let T = t c u w b g a in
+      let l = lap-is c u w b g a in
+      let l′ : lapAt m c (u ++ v) w room b ≡ T = lap-frame m c (u ++ v) w room b a ∙ x in
+      let n : T .done .used ≤ length u = rw l at (lap-uses m c u w room b g .most) in
+      let o : running m c u w room b ≡ later (T .done .used) (running m (T .done .next) (drop (T .done .used) u) (T .done .unread) room (T .done .buf)) =
+      running-more m c u w room b g (rw l e) ∙ rw l in
+      let o′ : running m c (u ++ v) w room b
+      ≡ later (T .done .used) (running m (T .done .next) (drop (T .done .used) (u ++ v)) (T .done .unread) room (T .done .buf)) =
+      running-more m c (u ++ v) w room b g (rw l′ e) ∙ rw l′ in
+      o′ ∙ rw (drop-append-le (T .done .used) u v n) (ap (later (T .done .used)) (ih e (λ y. q (ap (λ (z : Done). z .answer) o ∙ y)))) ∙ sym o
+  fixed-by c u w b g a ih false e (on x s) q =
+      stops-at c (u ++ v) w b (t c u w b g a) (lap-frame m c (u ++ v) w room b a ∙ x) e
+      ∙ sym (stops-at c u w b (t c u w b g a) (lap-is c u w b g a) e)
+
+  fixed-go : (f : ℕ) (c : PacketCodec) (u w b : List ℕ) → length u < f → c .unread ≤ room → Fixed c u w b
+  fixed-go zero c u w b h g q = absurd (not-suc-le-zero h)
+  fixed-go (suc f) c u w b h g q =
+      elim (asks (drained m c w b .answer)) as
+      (λ k. asks (drained m c w b .answer) ≡ k → running m c (u ++ v) w room b ≡ running m c u w room b) [
+        | true ↦ λ a.
+            let z = lap-uses m c u w room b g in
+            let l = lap-is c u w b g a in
+            fixed-by c u w b g a
+            (λ e. fixed-go f (t c u w b g a .done .next) (drop (t c u w b g a .done .used) u) (t c u w b g a .done .unread) (t c u w b g a .done .buf)
+            (let n : 7 ≤ t c u w b g a .done .used = rw l at (z .least (rw l e)) in
+            let n′ : t c u w b g a .done .used ≤ length u = rw l at (z .most) in
+            rw length-drop (omega arith))
+            (rw l at (z .within)))
+            (t c u w b g a .more) refl (grows u v (d c u w b g a .unread) room (d c u w b g a .buf) (d c u w b g a .next)) q
+        | false ↦ λ a.
+            stops-at c (u ++ v) w b (record { more = false; done = drained m c w b }) (lap-stop m c (u ++ v) w room b a) refl
+            ∙ sym (stops-at c u w b (record { more = false; done = drained m c w b }) (lap-stop m c u w room b a) refl)
+      ] refl
+
+  pub running-stays : (c : PacketCodec) (u w b : List ℕ) → c .unread ≤ room → Fixed c u w b
+  running-stays c u w b g q = fixed-go (suc (length u)) c u w b (omega arith) g q
+
 -- ---- a call
 
 module _ (m : ℕ) (c : PacketCodec) (u v s s′ b : List ℕ) where
@@ -320,3 +377,17 @@ module _ (m : ℕ) (c : PacketCodec) (u v s s′ b : List ℕ) where
   pub framed-resume : first .answer ≡ needMore → unreadOf (first .next) s′ ≡ first .unread → length s′ ≡ length s
       → readFramed m c (u ++ v) s b ≡ later (first .used) (readFramed m (first .next) (drop (first .used) u ++ v) s′ (first .buf))
   framed-resume = resume-by (c .closed) refl
+
+  stays-by : (k : Bool) → c .closed ≡ k → (first .answer ≡ needMore → ⊥) → readFramed m c (u ++ v) s b ≡ first
+  stays-by true k a = framed-closed m c (u ++ v) s b k ∙ sym (framed-closed m c u s b k)
+  stays-by false k a =
+      elim (decLe (c .unread) (length s)) [
+        | no h ↦ framed-no-room m c (u ++ v) s b k (omega arith) ∙ sym (framed-no-room m c u s b k (omega arith))
+        | yes h ↦
+            let o : first ≡ running m c u (unreadOf c s) (length s) b = framed-open m c u s b k h in
+            framed-open m c (u ++ v) s b k h ∙ running-stays m v (length s) c u (unreadOf c s) b h (λ y. a (rw o y)) ∙ sym o
+      ]
+
+  -- a call that answers a packet or a refusal answers the same, state and buffers included, when more bytes follow
+  pub framed-stays : (first .answer ≡ needMore → ⊥) → readFramed m c (u ++ v) s b ≡ first
+  framed-stays = stays-by (c .closed) refl

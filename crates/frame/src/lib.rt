@@ -21,6 +21,7 @@ ghost use Prim.Native.Nat.{_<_};
 ghost use Rattle.frame.specs.Read.{doneOf, readFramed};
 ghost use Rattle.frame.specs.Write.{sentOf, writeFramed};
 
+pub mod inner;
 mod reader;
 mod shift;
 mod writer;

@@ -1,9 +1,10 @@
 // What `decode_framed` is made of: one round, which is the plain reader on the unread bytes and then at most one frame.
 use crate::FrameDecoded;
 use crate::PacketCodec;
+use crate::inner::plain_of;
+use crate::inner::with_plain;
 use crate::shift::shift_left;
 use chunk::Answer;
-use chunk::PlainPacketCodec;
 use chunk::Tolerance;
 use chunk::decode_with;
 use refusal::Refusal;
@@ -17,7 +18,7 @@ ghost use lib.ListN.{length, getD};
 ghost use Rattle.wire.specs.Le.{leAt};
 ghost use Rattle.chunk.specs.Chunks.{largest, next};
 ghost use Rattle.chunk.specs.Read.{answerSaid};
-ghost use Rattle.frame.specs.Codec.{plainOf, withPlain, withFrame, closed, holdingFrame, unreadOf, lastNumber};
+ghost use Rattle.frame.specs.Codec.{withFrame, closed, holdingFrame, unreadOf, lastNumber};
 ghost use Rattle.frame.specs.Read.{doneOf, Steps, took, bodyAt, headed, frameAt, drained, asks, lapAt};
 
 fn close(mut codec: PacketCodec) -> PacketCodec
@@ -135,40 +136,6 @@ fn last_number(k: u8) -> u8
     ensures { λ r. ⌜ r ≡ lastNumber k ⌝ }
 {
     std::num::wrapping_sub_u8(k, 1)
-}
-
-fn plain_of(codec: PacketCodec) -> PlainPacketCodec
-    ensures { λ r. ⌜ r ≡ plainOf codec ⌝ }
-{
-    PlainPacketCodec {
-        limit: codec.limit,
-        taken: codec.taken,
-        len: codec.len,
-        number: codec.number,
-        waiting: codec.waiting,
-        ahead: codec.ahead,
-        closed: codec.closed,
-    }
-}
-
-fn with_plain(codec: PacketCodec, st: PlainPacketCodec, unread: usize) -> PacketCodec
-    ensures { λ r. ⌜ r ≡ withPlain codec st unread ⌝ }
-{
-    PacketCodec {
-        limit: st.limit,
-        taken: st.taken,
-        len: st.len,
-        unread,
-        size: codec.size,
-        number: st.number,
-        waiting: st.waiting,
-        ahead: st.ahead,
-        closed: st.closed,
-        frame: codec.frame,
-        held: codec.held,
-        coming: codec.coming,
-        framed: codec.framed,
-    }
 }
 
 // The plain reader on the unread bytes; what it leaves goes to staging's front.

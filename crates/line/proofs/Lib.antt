@@ -6,3 +6,5 @@ pub mod Wrong
 pub mod Examples
 pub mod Sense
 pub mod Some
+pub mod Seen
+pub mod Codec

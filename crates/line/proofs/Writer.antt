@@ -35,11 +35,11 @@ module _ (m : ℕ) (st : PlainPacketCodec) (p d : List ℕ) (n : ℕ) where
         | no h ↦ not-refused (rw (write-large m st p d c (omega arith)) at e)
       ]
 
-  gave : write m st p d .said ≡ gives n → write m st p d ≡ sent m st p d
+  pub gave : write m st p d .said ≡ gives n → write m st p d ≡ sent m st p d
   gave = gave-by (st .closed) refl
 
   -- so many bytes of its buffer's front are the packet's chunks
-  front : 0 < m → write m st p d .said ≡ gives n → take n (write m st p d .buf) ≡ chunks m (st .number) p
+  pub front : 0 < m → write m st p d .said ≡ gives n → take n (write m st p d .buf) ≡ chunks m (st .number) p
   front pos e =
       let w = gave e in
       let k : n ≡ needed m (length p) = let f : gives (needed m (length p)) ≡ gives n = rw w at e in cc in

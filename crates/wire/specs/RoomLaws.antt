@@ -1,12 +1,12 @@
 -- Laws of a buffer with some bytes put at a place.
-use mathlib.Core.Path.{_≡_, refl, sym, ap, _∙_}
+use mathlib.Core.Path.{_≡_, refl, sym, ap, _∙_, subst}
 use mathlib.Core.List.{List, [], _∷_, _++_, append-assoc}
-use Prim.Native.Nat.{ℕ, suc, _+_, _≤_, _<_}
+use Prim.Native.Nat.{ℕ, suc, _+_, _-_, _≤_, _<_}
 use native.Mathlib.Numerals.{add-one}
 use native.Mathlib.Nat.{add-assoc}
 use native.Mathlib.Omega.{arith}
-use lib.ListN.{length, take, drop, set, length-set, length-append, length-take, length-drop}
-use lib.Seq.{paste, take-length, sets, sets-eq, take-at, drop-at, drop-append-add, drop-drop}
+use lib.ListN.{length, take, drop, set, length-set, length-append, length-take, length-drop, take-append-drop}
+use lib.Seq.{paste, take-length, sets, sets-eq, take-at, drop-at, drop-append-add, drop-drop, length-take-le}
 use borrow.Author.Tests.{le-leb, lt-leb, leb-true, leb-false}
 use mathlib.Core.Bool.{Bool, true, false}
 use lib.Dec.{leb}
@@ -41,6 +41,18 @@ patch-append d at bs cs h =
     let u : drop (at + length bs + length cs) (patch d at bs) ≡ drop (at + (length bs + length cs)) d =
     rw (sym front, drop-append-add) (rw (drop-drop, front) (rw (add-assoc))) in
     rw (t, u, length-append) (rw (append-assoc (take at d) bs cs))
+
+-- a run in two parts: its first n bytes, and the rest behind them
+pub patch-split : (d : List ℕ) (at n : ℕ) (s : List ℕ) → n ≤ length s → at + length s ≤ length d
+    → patch (patch d at (take n s)) (at + n) (take (length s - n) (drop n s)) ≡ patch d at s
+patch-split d at n s h r =
+    let front : length (take n s) ≡ n = length-take-le n s h in
+    let rest : length (drop n s) ≡ length s - n = length-drop n s in
+    let whole : take (length s - n) (drop n s) ≡ drop n s = subst (λ (k : ℕ). take k (drop n s) ≡ drop n s) rest (take-length (drop n s)) in
+    rw whole
+    (subst (λ (k : ℕ). patch (patch d at (take n s)) (at + k) (drop n s) ≡ patch d at (take n s ++ drop n s)) front
+    (patch-append d at (take n s) (drop n s) (omega (arith, front, rest)))
+    ∙ ap (patch d at) (take-append-drop n s))
 
 -- the two outcomes of a writer
 pub wrote-full : (bs d : List ℕ) (at : ℕ) → length d < at + length bs → Wrote bs d at (Refused NoRoom) d

@@ -47,8 +47,8 @@ pub fn put_le(dst: &mut [u8], at: usize, k: usize, v: u64)
     }
 }
 
-// The bytes of src from a place on.
-pub fn copy(dst: &mut [u8], at: usize, src: &[u8])
+// Byte by byte, which the compiler makes into as wide steps as the machine has.
+fn run(dst: &mut [u8], at: usize, src: &[u8])
     requires { ⌜ at + length (now src) ≤ length (now dst) ⌝ }
     ensures { λ _. ⌜ now (dst .exit) ≡ patch (now (dst .entry)) at (now (src .entry)) ⌝ }
 {
@@ -57,6 +57,24 @@ pub fn copy(dst: &mut [u8], at: usize, src: &[u8])
         dst[at + i] = src[i];
         i += 1;
     }
+}
+
+// How many of n bytes come before the first place from `at` on that is a multiple of 16, if there are enough of them to be worth it.
+fn lead(at: usize, n: usize) -> usize
+    ensures { λ r. ⌜ r ≤ n ⌝ }
+{
+    if n < 1024 { 0 } else { (16 - at % 16) % 16 }
+}
+
+// The bytes of src from a place on. Behind a header of four bytes each wide store would straddle two lines of the cache, so a long
+// run begins with the few bytes before a multiple of 16: a buffer's front is most often at one.
+pub fn copy(dst: &mut [u8], at: usize, src: &[u8])
+    requires { ⌜ at + length (now src) ≤ length (now dst) ⌝ }
+    ensures { λ _. ⌜ now (dst .exit) ≡ patch (now (dst .entry)) at (now (src .entry)) ⌝ }
+{
+    let n = lead(at, src.len());
+    run(dst, at, &src[..n]);
+    run(dst, at + n, &src[n..]);
 }
 
 // A field of a date or time: k bytes at a place if there are so many bytes or more, else 0.

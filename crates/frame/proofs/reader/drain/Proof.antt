@@ -9,8 +9,8 @@ use Rattle.frame.proofs.reader.drain.Reads as reads
 use Rattle.frame.proofs.reader.drain.Lts as lts
 use Rattle.chunk.proofs.decode_with.Reads as decode-with-reads
 use Rattle.frame.proofs.reader.last_number.Reads as last-number-reads
-use Rattle.frame.proofs.reader.plain_of.Reads as plain-of-reads
-use Rattle.frame.proofs.reader.with_plain.Reads as with-plain-reads
+use Rattle.frame.proofs.inner.plain_of.Reads as plain-of-reads
+use Rattle.frame.proofs.inner.with_plain.Reads as with-plain-reads
 use Rattle.frame.proofs.shift.shift_left.Reads as shift-left-reads
 
 last-number-requires : tie.Need-last-number-requires

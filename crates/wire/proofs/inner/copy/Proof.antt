@@ -1,70 +1,69 @@
-use Rattle.wire.specs.RoomLaws.{paste-patch}
-use lib.Seq.{paste, paste-zero, paste-suc}
-use lib.ListN.{length, length-set}
-use native.Mathlib.Numerals.{add-one}
+use Rattle.wire.specs.RoomLaws.{patch-split, length-patch}
+use lib.Seq.{length-take-le}
+use lib.ListN.{length, take}
 use native.Mathlib.Omega.{arith}
-use Prim.Native.Nat.{_+_, _-_, _≤_}
-use mathlib.Core.Path.{_≡_, refl, _∙_}
+use mathlib.Core.Path.{_≡_, sym, ap, _∙_}
+use Prim.Native.Nat.{_+_, _≤_}
 use borrow.Author.Needs.{needs}
 use Rattle.wire.proofs.inner.copy.Statement.{statement}
 use Rattle.wire.proofs.inner.copy.Tie as tie
 use Rattle.wire.proofs.inner.copy.Reads as reads
 use Rattle.wire.proofs.inner.copy.Lts as lts
+use Rattle.wire.proofs.inner.lead.Reads as lead-reads
+use Rattle.wire.proofs.inner.run.Reads as run-reads
 
-abbrev Inv-loop : tie.InvT-loop
-Inv-loop dst₀ at src i₀ dst i = (i ≤ length src) × (dst ≡ paste dst₀ at src i) × (length dst ≡ length dst₀)
+lead-requires : tie.Need-lead-requires
+lead-requires c κs = search needs
 
-abbrev μ-loop : tie.MeasureT-loop
-μ-loop dst₀ at src i₀ dst i = length src - i
+slice-aggregate-run : tie.Need-slice-aggregate-run
+slice-aggregate-run c =
+    let l = c .before .before in
+    sym (length-take-le (l .lead .result) (l .before .before .before .args .src .now) (l .lead .ensures))
 
-loop-holds : tie.Need-loop-holds Inv-loop μ-loop
-loop-holds c = (omega arith, paste-zero (c .args .dst .now) (c .args .at) (c .args .src .now), refl)
+run-requires : tie.Need-run-requires
+run-requires c κs =
+    let l = c .before .before in
+    let a = l .before .before .before .args in
+    let e : length (take (l .lead .result) (a .src .now)) ≡ l .lead .result = length-take-le (l .lead .result) (a .src .now) (l .lead .ensures) in
+    omega (arith, e, l .lead .ensures, l .before .before .before .pre)
 
-shared-slice-read-dst : tie.Need-shared-slice-read-dst Inv-loop μ-loop
-shared-slice-read-dst c = search needs
+add-run : tie.Need-add-run
+add-run c = search needs
 
-add-dst : tie.Need-add-dst Inv-loop μ-loop
-add-dst c = search needs
+sub-run : tie.Need-sub-run
+sub-run c = search needs
 
-slice-write-dst : tie.Need-slice-write-dst Inv-loop μ-loop
-slice-write-dst c = search needs
+part-run-start : tie.Need-part-run-start
+part-run-start c = search needs
 
-add-i : tie.Need-add-i Inv-loop μ-loop
-add-i c = search needs
+part-run-end : tie.Need-part-run-end
+part-run-end c = search needs
 
-loop-less : tie.Need-loop-less Inv-loop μ-loop
-loop-less c = search needs
+run-requires-2 : tie.Need-run-requires-2
+run-requires-2 c κs = search needs
 
-loop-again : tie.Need-loop-again Inv-loop μ-loop
-loop-again c =
-    let a = c .before .before .before .args in
-    let l = c .before .before .loop in (
-      omega arith,
-      rw (add-one, l .inv .1) (paste-suc (a .dst .now) (a .at) (a .src .now) (l .i) 0 (omega arith) (omega arith)),
-      simp length-set (l .inv .2),
-    )
-
-same-length : tie.Need-same-length Inv-loop μ-loop
+same-length : tie.Need-same-length
 same-length c = search needs
 
-returns : tie.Need-returns Inv-loop μ-loop
+returns : tie.Need-returns
 returns c =
-    let a = c .before .before .args in
-    let l = c .before .loop in
-    l .inv .1 ∙ paste-patch (a .dst .now) (a .at) (a .src .now) (l .i) (omega arith)
+    let two = c .before .before .run2 in
+    let one = c .before .before .before .before .before .before .before .run in
+    let l = c .before .before .before .before .before .before .before .before .before .before in
+    let a = l .before .before .before .args in
+    rw (two .ensures, one .ensures) (patch-split (a .dst .now) (a .at) (l .lead .result) (a .src .now) (l .lead .ensures) (l .before .before .before .pre))
 
 pub copy-spec : {M : Type 1} → statement M
 copy-spec =
     tie.close
     (tie.spec
-    Inv-loop
-    μ-loop
-    loop-holds
-    shared-slice-read-dst
-    add-dst
-    slice-write-dst
-    add-i
-    loop-less
-    loop-again
+    lead-requires
+    slice-aggregate-run
+    run-requires
+    add-run
+    sub-run
+    part-run-start
+    part-run-end
+    run-requires-2
     same-length
     returns)

@@ -1,0 +1,3 @@
+pub mod Connection
+pub mod ConnectionLaws
+pub mod ReachLaws
