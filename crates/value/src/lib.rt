@@ -15,6 +15,7 @@ ghost use Rattle.value.specs.Kinds.{kindOf};
 ghost use Rattle.value.specs.Read.{binAt, textAt, skipAt, endIn, valueSaid, endSaid};
 ghost use Rattle.value.specs.Write.{valueBytes};
 
+pub mod inner;
 mod read;
 mod write;
 
@@ -212,9 +213,9 @@ pub fn serialize(dst: &mut [u8], at: usize, src: &[u8], v: Value) -> Put
         Value::Bytes { at: from, len } => wire::put_lenenc_str(dst, at, wire::part(src, from, len)),
         Value::Int(x) => wire::put_u64_le(dst, at, write::pattern_of(x)),
         Value::UInt(x) => wire::put_u64_le(dst, at, x),
-        Value::Float(x) => wire::put_u32_le(dst, at, write::single_bits(x)),
+        Value::Float(x) => wire::put_u32_le(dst, at, inner::single_bits(x)),
         Value::NanFloat(bits) => wire::put_u32_le(dst, at, bits),
-        Value::Double(x) => wire::put_u64_le(dst, at, write::double_bits(x)),
+        Value::Double(x) => wire::put_u64_le(dst, at, inner::double_bits(x)),
         Value::NanDouble(bits) => wire::put_u64_le(dst, at, bits),
         Value::Date(d) => write::put_date(dst, at, d),
         Value::Time(t) => write::put_time(dst, at, t),

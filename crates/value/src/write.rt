@@ -7,7 +7,6 @@ ghost use mathlib.Core.Path.{_≡_};
 ghost use mathlib.Core.List.{_∷_, _++_, []};
 ghost use Prim.Native.Nat.{_+_, _≤_, _<_, _^_, min};
 ghost use lib.ListN.{length, take};
-ghost use lib.Ieee.{binary32, binary64, toBits};
 ghost use Rattle.wire.specs.Le.{leBytes};
 ghost use Rattle.wire.specs.Room.{Wrote};
 ghost use Rattle.value.specs.Numbers.{patternOf};
@@ -24,23 +23,6 @@ pub(crate) fn pattern_of(z: i64) -> u64
         18_446_744_073_709_551_615 - below as u64
     } else {
         z as u64
-    }
-}
-
-// `to_bits` is not defined at a NaN: one that a caller made has the quiet pattern.
-pub(crate) fn single_bits(x: f32) -> u32
-    ensures { λ r. ⌜ r ≡ toBits binary32 x ⌝ }
-{
-    if x != x { 0x7FC0_0000 } else { f32::to_bits(x) }
-}
-
-pub(crate) fn double_bits(x: f64) -> u64
-    ensures { λ r. ⌜ r ≡ toBits binary64 x ⌝ }
-{
-    if x != x {
-        0x7FF8_0000_0000_0000
-    } else {
-        f64::to_bits(x)
     }
 }
 

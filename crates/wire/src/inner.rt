@@ -63,7 +63,7 @@ fn run(dst: &mut [u8], at: usize, src: &[u8])
 fn lead(at: usize, n: usize) -> usize
     ensures { λ r. ⌜ r ≤ n ⌝ }
 {
-    if n < 1024 { 0 } else { (16 - at % 16) % 16 }
+    if n < 512 { 0 } else { (16 - at % 16) % 16 }
 }
 
 // The bytes of src from a place on. Behind a header of four bytes each wide store would straddle two lines of the cache, so a long

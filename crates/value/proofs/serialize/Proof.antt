@@ -13,12 +13,12 @@ use Rattle.value.proofs.serialize.Statement.{statement}
 use Rattle.value.proofs.serialize.Tie as tie
 use Rattle.value.proofs.serialize.Reads as reads
 use Rattle.value.proofs.serialize.Lts as lts
-use Rattle.value.proofs.write.double_bits.Reads as double-bits-reads
+use Rattle.value.proofs.inner.double_bits.Reads as double-bits-reads
 use Rattle.value.proofs.write.pattern_of.Reads as pattern-of-reads
 use Rattle.value.proofs.write.put_date.Reads as put-date-reads
 use Rattle.value.proofs.write.put_null.Reads as put-null-reads
 use Rattle.value.proofs.write.put_time.Reads as put-time-reads
-use Rattle.value.proofs.write.single_bits.Reads as single-bits-reads
+use Rattle.value.proofs.inner.single_bits.Reads as single-bits-reads
 use Rattle.wire.proofs.part.Reads as part-reads
 use Rattle.wire.proofs.put_lenenc_str.Reads as put-lenenc-str-reads
 use Rattle.wire.proofs.put_u32_le.Reads as put-u32-le-reads

@@ -1,0 +1,4 @@
+pub mod EntryLaws
+pub mod FaceLaws
+pub mod StoreLaws
+pub mod Unique

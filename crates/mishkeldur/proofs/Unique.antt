@@ -1,0 +1,84 @@
+-- Each contract determines all: any two results that it allows are equal, the status, the lent numbers and the buffers alike. Of
+-- staging the unread bytes are meant; what stands behind them is the listed exception.
+use mathlib.Core.Path.{_≡_, sym, _∙_}
+use mathlib.Core.Bool.{true, false, cond}
+use mathlib.Core.List.{List}
+use Prim.Native.Nat.{ℕ}
+use Rattle.refusal.specs.Said.{Said}
+use Rattle.frame.specs.Codec.{unreadOf}
+use Rattle.frame.specs.declared.PacketCodec.{PacketCodec}
+use Rattle.codec.specs.Connection.{stagingStays}
+use Rattle.mishkeldur.specs.Face.{status, holds, Puts}
+use Rattle.mishkeldur.specs.State.{short, codecOf, readBy, Opens, Changes, Reads, Writes, Looks}
+
+-- ---- entries whose contract says outright what the status, a number or a list is: `mk_state_size`, `mk_lenenc_int_len`, the starts
+-- of `mk_read_row` and `mk_read_params`
+
+pub said-unique : {A : Type 0} {x y v : A} → x ≡ v → y ≡ v → x ≡ y
+said-unique e f = e ∙ sym f
+
+-- ---- the readers: each status is that of an answer, and each lent number what the answer gives or what it held
+
+pub status-unique : {A : Type 0} (v : Said A) {r q : ℕ} → r ≡ status v → q ≡ status v → r ≡ q
+status-unique v e f = e ∙ sym f
+
+pub number-unique : {A B : Type 0} (v : Said A) (f : A → B) (old : B) {x y : B} → x ≡ holds v f old → y ≡ holds v f old → x ≡ y
+number-unique v f old d e = d ∙ sym e
+
+-- ---- the writers of numbers, strings, values, quoted bytes and records
+
+pub puts-unique : {bs d : List ℕ} {at old r q : ℕ} {d₁ d₂ : List ℕ} {n₁ n₂ : ℕ} → Puts bs d at old r d₁ n₁ → Puts bs d at old q d₂ n₂
+    → (r ≡ q) × (d₁ ≡ d₂) × (n₁ ≡ n₂)
+puts-unique v w = (v .status ∙ sym (w .status), v .left ∙ sym (w .left), v .next ∙ sym (w .next))
+
+-- ---- the packet entries
+
+-- `mk_open`
+pub opens-unique : {s : List ℕ} {limit r q : ℕ} {s₁ s₂ : List ℕ} → Opens s limit r s₁ → Opens s limit q s₂ → (r ≡ q) × (s₁ ≡ s₂)
+opens-unique v w = (v .status ∙ sym (w .status), v .state ∙ sym (w .state))
+
+-- `mk_frames_on`, `mk_reset_seq_id`, `mk_sync_seq_id`
+pub changes-unique : {f : PacketCodec → PacketCodec} {s : List ℕ} {r q : ℕ} {s₁ s₂ : List ℕ} → Changes f s r s₁ → Changes f s q s₂
+    → (r ≡ q) × (s₁ ≡ s₂)
+changes-unique v w = (v .status ∙ sym (w .status), v .state ∙ sym (w .state))
+
+-- `mk_look`
+pub looks-unique : {s : List ℕ} {r q n f u m k n₁ f₁ u₁ m₁ k₁ n₂ f₂ u₂ m₂ k₂ : ℕ} → Looks s r n f u m k n₁ f₁ u₁ m₁ k₁
+    → Looks s q n f u m k n₂ f₂ u₂ m₂ k₂ → (r ≡ q) × (n₁ ≡ n₂) × (f₁ ≡ f₂) × (u₁ ≡ u₂) × (m₁ ≡ m₂) × (k₁ ≡ k₂)
+looks-unique v w = (
+  v .status ∙ sym (w .status),
+  v .number ∙ sym (w .number),
+  v .frame ∙ sym (w .frame),
+  v .unread ∙ sym (w .unread),
+  v .framed ∙ sym (w .framed),
+  v .closed ∙ sym (w .closed),
+)
+
+-- `mk_read`
+pub reads-unique : {s u g b : List ℕ} {old r q : ℕ} {s₁ g₁ b₁ s₂ g₂ b₂ : List ℕ} {used₁ len₁ used₂ len₂ : ℕ}
+    → Reads s u g b old r s₁ g₁ b₁ used₁ len₁ → Reads s u g b old q s₂ g₂ b₂ used₂ len₂
+    → (r ≡ q) × (used₁ ≡ used₂) × (len₁ ≡ len₂) × (s₁ ≡ s₂) × (b₁ ≡ b₂)
+reads-unique v w = (
+  v .status ∙ sym (w .status),
+  v .used ∙ sym (w .used),
+  v .len ∙ sym (w .len),
+  v .state ∙ sym (w .state),
+  v .packet ∙ sym (w .packet),
+)
+
+-- its staging: the unread bytes, and all of it where it was to stay
+pub staging-unique : {s u g b : List ℕ} {old r q : ℕ} {s₁ g₁ b₁ s₂ g₂ b₂ : List ℕ} {used₁ len₁ used₂ len₂ : ℕ}
+    → Reads s u g b old r s₁ g₁ b₁ used₁ len₁ → Reads s u g b old q s₂ g₂ b₂ used₂ len₂
+    → (short s ≡ false → unreadOf (readBy s u g b .next) g₁ ≡ unreadOf (readBy s u g b .next) g₂)
+    × (cond (short s) true (stagingStays (codecOf s) g) ≡ true → g₁ ≡ g₂)
+staging-unique v w = (λ t. v .unread t ∙ sym (w .unread t), λ t. v .stays t ∙ sym (w .stays t))
+
+-- `mk_write`
+pub writes-unique : {s p d : List ℕ} {old r q : ℕ} {s₁ d₁ s₂ d₂ : List ℕ} {n₁ n₂ : ℕ} → Writes s p d old r s₁ d₁ n₁
+    → Writes s p d old q s₂ d₂ n₂ → (r ≡ q) × (n₁ ≡ n₂) × (s₁ ≡ s₂) × (d₁ ≡ d₂)
+writes-unique v w = (
+  v .status ∙ sym (w .status),
+  v .written ∙ sym (w .written),
+  v .state ∙ sym (w .state),
+  v .left ∙ sym (w .left),
+)

@@ -1,0 +1,4 @@
+pub mod Face
+pub mod State
+pub mod StateLaws
+pub mod Values

@@ -1,0 +1,183 @@
+/*
+ * A target for libFuzzer: the first byte picks an entry, the next ones its numbers, and the rest is what it reads. Whatever comes, the
+ * entry must end, stay within what it was lent (each slice ends at a page that may not be touched) and keep its promises. The proved
+ * code is not instrumented; the fuzzer is guided by the branches on its answers here.
+ */
+#include "../lend.h"
+#include "mishkeldur.h"
+
+#define PROMISE(cond)                                                        \
+    do {                                                                     \
+        if (!(cond)) {                                                       \
+            fprintf(stderr, "%s:%d: broken: %s\n", __FILE__, __LINE__, #cond); \
+            abort();                                                         \
+        }                                                                    \
+    } while (0)
+
+enum { MOST = 4096 };
+
+static lent source, staging, packet, state;
+
+/* The last n bytes of a lent slice, which end where the guard begins. */
+static uint8_t *last(lent l, size_t n) { return l.at + l.len - n; }
+
+typedef struct {
+    const uint8_t *at;
+    size_t len;
+} input;
+
+static uint8_t take(input *in)
+{
+    if (in->len == 0) return 0;
+    in->len--;
+    return *in->at++;
+}
+
+static const uint8_t *lend_rest(input *in)
+{
+    size_t n = in->len < MOST ? in->len : MOST;
+    in->len = n;
+    uint8_t *s = last(source, n);
+    if (n != 0) memcpy(s, in->at, n);
+    return s;
+}
+
+/* A different way through this function for each status, so that the fuzzer sees that something new was answered. */
+static volatile unsigned seen[256];
+static void note(uint8_t status)
+{
+    switch (status) {
+#define CASE(n) case n: seen[n]++; break;
+        CASE(0) CASE(1) CASE(2) CASE(3) CASE(4) CASE(5) CASE(6) CASE(7) CASE(8) CASE(9) CASE(10) CASE(11) CASE(12) CASE(13) CASE(255)
+    default: PROMISE(!"a status that is none");
+    }
+}
+
+/* A connection: opened, or with the bytes of the input as its state; then reads in pieces, with resets, syncs and writes between. */
+static void connection(input in, bool foreign)
+{
+    uint8_t *st = last(state, MK_STATE_SIZE);
+    size_t limit = 1 + take(&in) % 64, room = take(&in) % 160, buffer = take(&in) % 80;
+    uint8_t habit = take(&in), number, frame, framed, closed;
+    size_t unread;
+    if (foreign) {
+        for (size_t i = 0; i < MK_STATE_SIZE; i++) st[i] = take(&in);
+        if (habit & 1) st[0] = 0x4B;
+    } else {
+        PROMISE(mk_open(st, MK_STATE_SIZE, limit) == MK_OK);
+        if (habit & 1) PROMISE(mk_frames_on(st, MK_STATE_SIZE) == MK_OK);
+        if (habit & 2) room = MK_STAGING_SIZE(limit), buffer = limit;
+    }
+    size_t step = habit & 4 ? 1 + habit / 8 : MOST, from = 0, to = 0, all;
+    const uint8_t *src = lend_rest(&in);
+    all = in.len;
+    while (to < all) {
+        to = all - to < step ? all : to + step;
+        for (int calls = 0; calls < 64; calls++) {
+            size_t used = STALE, len = STALE;
+            uint8_t *g = last(staging, room), *p = last(packet, buffer);
+            uint8_t r = mk_read(st, MK_STATE_SIZE, src + from, to - from, g, room, p, buffer, &used, &len);
+            note(r);
+            PROMISE(used <= to - from);
+            PROMISE(r == MK_OK ? len <= buffer : len == STALE);
+            PROMISE(foreign || !(habit & 2) || r != MK_NO_ROOM);
+            PROMISE(mk_look(st, MK_STATE_SIZE, &number, &frame, &unread, &framed, &closed) == MK_OK);
+            PROMISE(r != MK_TOO_LARGE && r != MK_OUT_OF_SYNC && r != MK_BAD_FRAME_HEADER && r != MK_PACKED ? true : closed == 1);
+            PROMISE(r != MK_CLOSED || (used == 0 && closed == 1));
+            PROMISE(r != MK_NO_ROOM || closed == 0);
+            from += used;
+            if (r != MK_OK) break;
+            if (habit & 16) mk_sync_seq_id(st, MK_STATE_SIZE);
+            if (habit & 32) {
+                size_t n = STALE;
+                uint8_t w = mk_write(st, MK_STATE_SIZE, p, len, last(source, 0), 0, &n);
+                note(w);
+                PROMISE(w != MK_OK && n == STALE);
+            }
+        }
+    }
+}
+
+/* A packet written and read back is the packet, with frames or without. */
+static void round_trip(input in)
+{
+    uint8_t writer[MK_STATE_SIZE], reader[MK_STATE_SIZE];
+    size_t limit = 1 + take(&in), n, used, len = STALE, written = STALE;
+    bool framed = take(&in) & 1;
+    const uint8_t *p = lend_rest(&in);
+    n = in.len < limit ? in.len : limit;
+    static uint8_t wire[8192];
+    mk_open(writer, sizeof writer, limit);
+    mk_open(reader, sizeof reader, limit);
+    if (framed) mk_frames_on(writer, sizeof writer), mk_frames_on(reader, sizeof reader);
+    size_t need = framed ? MK_FRAMED_SIZE(n, limit) : MK_PLAIN_SIZE(n);
+    PROMISE(need <= sizeof wire);
+    PROMISE(mk_write(writer, sizeof writer, p, n, wire, need - 1, &written) == MK_NO_ROOM && written == STALE);
+    PROMISE(mk_write(writer, sizeof writer, p, n, wire, need, &written) == MK_OK && written == need);
+    uint8_t *b = last(packet, limit), *g = last(staging, MK_STAGING_SIZE(limit));
+    PROMISE(mk_read(reader, sizeof reader, wire, need, g, MK_STAGING_SIZE(limit), b, limit, &used, &len) == MK_OK);
+    PROMISE(used == need && len == n && memcmp(b, p, n) == 0);
+}
+
+static void values(input in, uint8_t which)
+{
+    size_t at = take(&in), a = 0, b = 0, c = 0, d = 0, e = 0, list[32];
+    uint8_t type = take(&in), sign = take(&in), k = 0, x[4], types[32], signs[32];
+    for (int i = 0; i < 32; i++) types[i] = (uint8_t)(type + i * sign), signs[i] = sign;
+    const uint8_t *s = lend_rest(&in);
+    size_t n = in.len;
+    uint64_t u = 0;
+    int64_t z = 0;
+    uint32_t w[2];
+    uint16_t y = 0;
+    uint8_t r = 0;
+    switch (which % 10) {
+    case 0: r = mk_lenenc_int(s, n, at, &u, &a); PROMISE(r || a <= n); break;
+    case 1: r = mk_lenenc_str(s, n, at, &a, &b); PROMISE(r || (a <= n && b <= n - a)); break;
+    case 2: r = mk_read_duration(s, n, at, &z, &a); PROMISE(r || (a <= n && z >= -INT64_MAX)); break;
+    case 3: r = mk_read_value(s, n, at, type, sign, &k, &z, &u, &a, &b, &c); PROMISE(r || c <= n || (c == at && k == MK_NULL)); break;
+    case 4: r = mk_read_text(s, n, at, &k, &a, &b, &c); PROMISE(r || c <= n); break;
+    case 5: r = mk_read_date(s, n, at, &y, &k, &x[0], &x[1], &x[2], &x[3], &w[0], &a); PROMISE(r || a <= n); break;
+    case 6: r = mk_read_row(s, n, types, 1 + at % 32, signs, 1 + at % 32, list, 32, &a, &b); PROMISE(r || (a <= 32 && b <= n)); break;
+    case 7: r = mk_read_params(s, n, types, 1 + at % 32, signs, 1 + at % 32, list, 32, &a, &b); PROMISE(r || (a <= 32 && b <= n)); break;
+    case 8: r = mk_read_record(s, n, type, &a, &b, &k, &c); PROMISE(r || c <= n); break;
+    default: r = mk_next_variable(s, n, at, &k, &a, &b, &c, &d, &e); PROMISE(r || k == 0 || (e > at && e <= n)); break;
+    }
+    note(r);
+}
+
+/* What was quoted is as long as was said, and has its quotes. */
+static void quoting(input in)
+{
+    uint8_t mode = take(&in);
+    const uint8_t *s = lend_rest(&in);
+    size_t len = 0, next = STALE;
+    PROMISE(mk_escaped_len(s, in.len, mode, &len) == MK_OK && len >= in.len + 2 && len <= 2 * in.len + 2);
+    lent d = staging;
+    if (len > d.len) return;
+    PROMISE(mk_escaped(last(d, len), len, 1, s, in.len, mode, &next) == MK_NO_ROOM && next == STALE);
+    PROMISE(mk_escaped(last(d, len), len, 0, s, in.len, mode, &next) == MK_OK && next == len);
+    PROMISE(last(d, len)[0] == '\'' && last(d, len)[len - 1] == '\'');
+}
+
+int LLVMFuzzerTestOneInput(const uint8_t *data, size_t size);
+
+int LLVMFuzzerTestOneInput(const uint8_t *data, size_t size)
+{
+    if (source.at == NULL) {
+        source = lend_end(MOST);
+        staging = lend_end(2 * MOST + 16);
+        packet = lend_end(MOST);
+        state = lend_end(MK_STATE_SIZE);
+    }
+    input in = {data, size};
+    uint8_t which = take(&in);
+    switch (which & 7) {
+    case 0: case 1: case 2: connection(in, false); break;
+    case 3: connection(in, true); break;
+    case 4: round_trip(in); break;
+    case 5: quoting(in); break;
+    default: values(in, which >> 3); break;
+    }
+    return 0;
+}

@@ -1,0 +1,157 @@
+#!/bin/sh
+# The loader against a real MariaDB server: plain, with frames that an ordinary server packs (refusal 5), and with frames that it
+# stores. The server is Debian's, has its data in a temporary folder, listens on a unix socket and on loopback, and runs without
+# privileges. What the loader prints is held to what the server's own client prints. Everything is stopped and removed at the end.
+set -eu
+cd "$(dirname "$0")/../.."
+loader=${LOADER:-build/asan/loader}
+[ -x "$loader" ] || loader=build/loader
+[ -x "$loader" ] || { echo "live: no loader: run make first"; exit 1; }
+
+say() { echo "live: $*"; }
+have() { command -v "$1" > /dev/null 2>&1; }
+PATH=$PATH:/usr/sbin:/sbin
+export PATH
+
+# The core packages have the server and its client, and neither start a service nor make an account.
+install_server() {
+    DEBIAN_FRONTEND=noninteractive apt-get install -y --no-install-recommends mariadb-server-core mariadb-client-core > /dev/null
+}
+if ! have mariadbd || ! have mariadb-install-db || ! have mariadb; then
+    if [ "$(id -u)" != 0 ] || ! have apt-get; then
+        say "please install a MariaDB server (Debian: mariadb-server, or mariadb-server-core and mariadb-client-core)"
+        exit 1
+    fi
+    say "installing mariadb-server-core and mariadb-client-core"
+    install_server || { apt-get update > /dev/null || true; install_server || { say "they can't be installed"; exit 1; }; }
+fi
+
+work=$(mktemp -d /tmp/live.XXXXXX)
+socket=$work/socket
+server=
+stop_server() {
+    [ -n "$server" ] || return 0
+    kill -TERM "$server" 2> /dev/null || true
+    wait "$server" 2> /dev/null || true
+    server=
+    [ ! -e "$socket" ] || { say "the server's socket is still there"; return 1; }
+}
+finish() {
+    status=$?
+    trap - EXIT
+    stop_server || status=1
+    if [ "$status" != 0 ] && [ -f "$work/server.log" ]; then
+        say "failed; the end of the server's log:"
+        tail -n 15 "$work/server.log"
+    fi
+    rm -rf "$work"
+    exit "$status"
+}
+trap finish EXIT
+trap 'exit 1' HUP INT TERM
+
+# Words in front of a command, not a function: behind a function in the background $! would be a shell, and not the server.
+user=$(id -un)
+as_user=
+if [ "$(id -u)" = 0 ]; then
+    user=nobody
+    if id mysql > /dev/null 2>&1; then user=mysql; fi
+    as_user="setpriv --reuid=$user --regid=$(id -g "$user") --clear-groups"
+    chown "$user" "$work"
+fi
+chmod 755 "$work"
+mkdir "$work/data" "$work/tmp"
+[ "$(id -u)" != 0 ] || chown "$user" "$work/data" "$work/tmp"
+
+# --no-defaults keeps out the machine's own settings; the rest keeps the server small.
+settings="--no-defaults --datadir=$work/data --tmpdir=$work/tmp --socket=$socket --pid-file=$work/pid --bind-address=127.0.0.1
+    --skip-name-resolve --skip-log-bin --innodb-buffer-pool-size=32M --innodb-log-file-size=8M --performance-schema=OFF"
+
+# Starts the server, with a library preloaded if one is named, and waits until it answers.
+start_server() {
+    for try in 1 2 3; do
+        port=$(shuf -i 20000-32000 -n 1)
+        # shellcheck disable=SC2086
+        $as_user env ${1:+LD_PRELOAD="$1"} mariadbd $settings --port="$port" > "$work/server.log" 2>&1 &
+        server=$!
+        waited=0
+        while [ "$waited" -lt 300 ] && kill -0 "$server" 2> /dev/null; do
+            if client -e 'SELECT 1' > /dev/null 2>&1; then return 0; fi
+            sleep 0.2
+            waited=$((waited + 1))
+        done
+        say "the server did not start at port $port (try $try)"
+        stop_server
+    done
+    return 1
+}
+client() { mariadb --no-defaults --socket="$socket" --user=root --batch --skip-column-names "$@"; }
+
+say "making a data folder as $user"
+# shellcheck disable=SC2086
+$as_user mariadb-install-db --no-defaults --datadir="$work/data" --tmpdir="$work/tmp" --auth-root-authentication-method=normal \
+    --skip-test-db --skip-name-resolve > "$work/server.log" 2>&1
+
+start_server "" || exit 1
+say "an ordinary server: $(client -e 'SELECT VERSION()'), port $port"
+
+# The name of the table has a backtick and a space, for the loader's quotes.
+table='night`s stops'
+client < tests/live/table.sql
+client depot > "$work/want" << 'SQL'
+SELECT CAST(TIME_TO_SEC(t0) * 1000000 AS SIGNED), t0, id FROM `night``s stops` WHERE t0 IS NOT NULL ORDER BY t0, id;
+SQL
+# shellcheck disable=SC2016
+nulls=$(client depot -e 'SELECT COUNT(*) FROM `night``s stops` WHERE t0 IS NULL')
+negative=$(grep -c '^-' "$work/want")
+say "a table of 200 rows, $(wc -l < "$work/want") offsets, $negative of them negative, $nulls NULL"
+echo "$negative of $(wc -l < "$work/want") trains have a negative offset" >> "$work/want"
+printf 'it'\''s "night" \\ 7\n' > "$work/password"
+printf 'wrong\n' > "$work/wrong"
+: > "$work/none"
+
+load() { # where, table, words
+    where=$1 name=$2
+    shift 2
+    "$loader" --head 0 --connect "$where" --user depot --password-file "$work/password" --database depot --table "$name" "$@" \
+        > "$work/got" 2> "$work/said"
+}
+must_load() { # what, then as load
+    what=$1
+    shift
+    load "$@" || { say "$what: exit status $?: $(cat "$work/said")"; exit 1; }
+    cmp "$work/want" "$work/got" || { say "$what: not what the server's own client prints"; diff "$work/want" "$work/got" | head; exit 1; }
+    grep -q "^loader: 200 rows, .* $nulls NULL offsets" "$work/said" || { say "$what: $(cat "$work/said")"; exit 1; }
+    say "$what: as the server's own client prints it; $(cat "$work/said")"
+}
+must_refuse() { # what, text, then as load
+    what=$1 text=$2
+    shift 2
+    status=0
+    load "$@" || status=$?
+    { [ "$status" = 1 ] && grep -qF "$text" "$work/said"; } || { say "$what: exit status $status, $(cat "$work/said")"; exit 1; }
+    [ ! -s "$work/got" ] || { say "$what: printed trains"; exit 1; }
+    say "$what: $(cat "$work/said")"
+}
+
+must_load "plain, socket" "$socket" "$table"
+must_load "plain, loopback" "127.0.0.1:$port" "$table"
+must_load "plain, a user without a password" "$socket" "$table" --user open --password-file "$work/none"
+must_refuse "packed frames, socket" "refused 5 (packed)" "$socket" "$table" --stored
+must_refuse "packed frames, loopback" "refused 5 (packed)" "127.0.0.1:$port" "$table" --stored
+must_refuse "a limit below a row" "refused 2 (too large)" "$socket" "$table" --limit 8192
+must_refuse "no such table" "error 1146 (42S02)" "$socket" "no such table"
+must_refuse "a wrong password" "error 1045 (28000)" "$socket" "$table" --password-file "$work/wrong"
+must_refuse "a password of the old form" "before version 4.1" "$socket" "$table" --user ancient
+must_refuse "no TIME column" "no TIME column" "$socket" "$table" --offset id
+stop_server
+
+say "the same server with zlib held at level 0"
+${CC:-cc} -shared -fPIC -O2 -Wall -Wextra -o "$work/level0.so" tests/live/level0.c -ldl
+start_server "$work/level0.so" || exit 1
+must_load "stored frames, socket" "$socket" "$table" --stored
+must_load "stored frames, loopback" "127.0.0.1:$port" "$table" --stored
+must_load "plain, socket" "$socket" "$table"
+stop_server
+must_refuse "no server" "connecting to" "$socket" "$table"
+say "passed"
