@@ -1,0 +1,54 @@
+//! The four sides' entries.
+#![allow(dead_code)]
+
+use std::ffi::c_int;
+
+unsafe extern "C" {
+    pub fn pc_size() -> usize;
+    pub fn pc_open(c: *mut u8, limit: usize);
+    pub fn pc_frames_on(c: *mut u8);
+    pub fn pc_read(
+        c: *mut u8, src: *const u8, n: usize, staging: *mut u8, sroom: usize, packet: *mut u8, room: usize, used: *mut usize,
+        len: *mut usize,
+    ) -> c_int;
+    pub fn pc_write(c: *mut u8, p: *const u8, n: usize, d: *mut u8, room: usize, written: *mut usize) -> c_int;
+    pub fn pc_escaped(d: *mut u8, s: *const u8, n: usize) -> usize;
+    pub fn pc_lenenc_int(s: *const u8, n: usize, at: usize, value: *mut u64, next: *mut usize) -> c_int;
+    pub fn pc_put_lenenc_int(d: *mut u8, n: usize, at: usize, v: u64, next: *mut usize) -> c_int;
+    pub fn pc_read_row(
+        s: *const u8, n: usize, types: *const u8, columns: usize, starts: *mut usize, nulls: *mut usize, used: *mut usize,
+    ) -> c_int;
+}
+
+#[cfg(archive)]
+unsafe extern "C" {
+    pub fn mk_lenenc_int(s: *const u8, s_len: usize, at: usize, value: *mut u64, next: *mut usize) -> u8;
+    pub fn mk_put_lenenc_int(dst: *mut u8, dst_len: usize, at: usize, v: u64, next: *mut usize) -> u8;
+    pub fn mk_escaped(
+        dst: *mut u8, dst_len: usize, at: usize, input: *const u8, input_len: usize, no_backslash_escape: u8, next: *mut usize,
+    ) -> u8;
+    pub fn mk_read_row(
+        row: *const u8, row_len: usize, types: *const u8, types_len: usize, signs: *const u8, signs_len: usize, starts: *mut usize,
+        starts_len: usize, nulls: *mut usize, used: *mut usize,
+    ) -> u8;
+}
+
+#[cfg(packets)]
+unsafe extern "C" {
+    pub fn mk_open(state: *mut u8, state_len: usize, limit: usize) -> u8;
+    pub fn mk_frames_on(state: *mut u8, state_len: usize) -> u8;
+    pub fn mk_read(
+        state: *mut u8, state_len: usize, src: *const u8, src_len: usize, staging: *mut u8, staging_len: usize, packet: *mut u8,
+        packet_len: usize, used: *mut usize, len: *mut usize,
+    ) -> u8;
+    pub fn mk_write(
+        state: *mut u8, state_len: usize, packet: *const u8, packet_len: usize, dst: *mut u8, dst_len: usize, written: *mut usize,
+    ) -> u8;
+}
+
+#[cfg(mariadb)]
+unsafe extern "C" {
+    pub fn mysql_init(mysql: *mut u8) -> *mut u8;
+    pub fn mysql_real_escape_string(mysql: *mut u8, to: *mut u8, from: *const u8, length: std::ffi::c_ulong) -> std::ffi::c_ulong;
+    pub fn mysql_character_set_name(mysql: *mut u8) -> *const std::ffi::c_char;
+}
