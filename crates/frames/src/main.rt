@@ -1,8 +1,6 @@
-// Stored frames at work. First a fixed list of calls around every rule, each against the answer, the bytes used, the whole state and
-// both buffers that a codec written from the paper gives (host/data/frames.py, which also says how the file is laid out). Then a
-// million frames with nothing in them, in one call.
-use codec::Decoded;
-use codec::Encoded;
+// One codec at work, with frames off and on. First a fixed list of operations, each against the answer, the bytes used, the lent
+// buffers and the whole state that a codec written from the paper gives (host/data/frames.py, which also says how the file is laid
+// out). Then a million frames with nothing in them, read in one call.
 use codec::Got;
 use codec::Opened;
 use frame::PacketCodec;
@@ -11,8 +9,13 @@ use refusal::number_of;
 use wire::Put;
 use wire::ReadNum;
 use wire::part;
-ghost use mathlib.Core.Path.{_≡_};
 ghost use Prim.Native.Nat.{_≤_, _<_};
+
+// How many operations a file may hold.
+const MOST: usize = 10_000;
+
+// An answer's byte in the file where it is neither need more, 0, nor a refusal, its number.
+const DONE: u8 = 0xFF;
 
 // ---- numbers of a file, low byte first; 0 past its end
 
@@ -23,9 +26,11 @@ fn short(file: &[u8], at: usize) -> u8 {
     }
 }
 
-fn word(file: &[u8], at: usize) -> usize {
+fn word(file: &[u8], at: usize) -> usize
+    ensures { λ r. ⌜ r < 0x1_0000_0000 ⌝ }
+{
     match wire::checked_eat_u32_le(file, at) {
-        ReadNum::Done(n) => n.value as usize,
+        ReadNum::Done(n) => (n.value % 0x1_0000_0000) as usize,
         ReadNum::Refused(_) => 0,
     }
 }
@@ -37,27 +42,27 @@ fn long(file: &[u8], at: usize) -> usize {
     }
 }
 
+// ---- what an operation should leave
+
 fn state_at(file: &[u8], at: usize) -> PacketCodec
     requires { ⌜ at < 0x10_0000 ⌝ }
 {
     PacketCodec {
-        limit: long(file, at),
-        taken: long(file, at + 8),
-        len: long(file, at + 16),
-        unread: long(file, at + 24),
-        size: long(file, at + 32),
-        number: short(file, at + 40),
-        waiting: short(file, at + 41) == 1,
-        ahead: short(file, at + 42),
-        closed: short(file, at + 43) == 1,
-        frame: short(file, at + 44),
-        held: short(file, at + 45) == 1,
-        coming: short(file, at + 46),
-        framed: short(file, at + 47) == 1,
+        limit: long(file, at + 40),
+        taken: word(file, at + 48),
+        len: word(file, at + 52),
+        unread: word(file, at + 56),
+        size: word(file, at + 60),
+        number: short(file, at + 64),
+        waiting: short(file, at + 65) == 1,
+        ahead: short(file, at + 66),
+        closed: short(file, at + 67) == 1,
+        frame: short(file, at + 68),
+        held: short(file, at + 69) == 1,
+        coming: short(file, at + 70),
+        framed: short(file, at + 71) == 1,
     }
 }
-
-// ---- what a case asks for
 
 fn same_plain(a: PacketCodec, b: PacketCodec) -> bool {
     if a.limit != b.limit {
@@ -103,129 +108,131 @@ fn same_state(a: PacketCodec, b: PacketCodec) -> bool {
     same_plain(a, b)
 }
 
-// The case's answer: 0 need more, 1 a length, 2 a refusal's number; and the bytes used.
-fn is_said(file: &[u8], at: usize, kind: usize, value: usize, used: usize) -> bool
-    requires { ⌜ at < 0xF_0000 ⌝ }
+fn is_said(file: &[u8], at: usize, answer: u8, value: usize) -> bool
+    requires { ⌜ at < 0x10_0000 ⌝ }
 {
-    if word(file, at + 40) != kind {
+    if short(file, at + 1) != answer {
         return false;
     }
-    if long(file, at + 44) != value {
+    word(file, at + 28) == value
+}
+
+fn is_got(file: &[u8], at: usize, got: Got) -> bool
+    requires { ⌜ at < 0x10_0000 ⌝ }
+{
+    match got {
+        Got::NeedMore(used) => used == long(file, at + 32) && is_said(file, at, 0, 0),
+        Got::Packet(used, n) => used == long(file, at + 32) && is_said(file, at, DONE, n),
+        Got::Refused(used, why) => used == long(file, at + 32)
+            && is_said(file, at, number_of(why), 0),
+    }
+}
+
+fn is_put(file: &[u8], at: usize, put: Put) -> bool
+    requires { ⌜ at < 0x10_0000 ⌝ }
+{
+    match put {
+        Put::Next(n) => is_said(file, at, DONE, n),
+        Put::Refused(why) => is_said(file, at, number_of(why), 0),
+    }
+}
+
+// The lent buffer in its whole length, and the unread bytes of staging.
+fn is_left(file: &[u8], at: usize, staging: &[u8], buf: &[u8]) -> bool
+    requires { ⌜ at < 0x10_0000 ⌝ }
+{
+    let room = word(file, at + 16);
+    if !check::same(part(buf, 0, room), part(file, word(file, at + 20), room)) {
         return false;
     }
-    long(file, at + 52) == used
+    let unread = word(file, at + 56);
+    check::same(
+        part(staging, 0, unread),
+        part(file, word(file, at + 24), unread),
+    )
 }
 
-// The state and the packet buffer, whole.
-fn is_left(file: &[u8], at: usize, next: PacketCodec, dst: &[u8]) -> bool
-    requires { ⌜ at < 0xF_0000 ⌝ }
+// ---- the operations
+
+// The codec after an operation, and whether all is as it should be.
+struct Run {
+    codec: PacketCodec,
+    right: bool,
+}
+
+fn run_of(file: &[u8], at: usize, codec: PacketCodec, right: bool) -> Run
+    requires { ⌜ at < 0x10_0000 ⌝ }
 {
-    if !same_state(next, state_at(file, at + 108)) {
-        return false;
+    Run {
+        codec,
+        right: right && same_state(codec, state_at(file, at)),
     }
-    check::same(dst, part(file, word(file, at + 20), word(file, at + 16)))
 }
 
-// What stands at staging's front: the unread bytes, or all of it where nothing may change.
-fn is_staged(file: &[u8], at: usize, staging: &[u8]) -> bool
-    requires { ⌜ at < 0xF_0000 ⌝ }
+fn try_opening(file: &[u8], at: usize) -> Run
+    requires { ⌜ at < 0x10_0000 ⌝ }
 {
-    let n = word(file, at + 36);
-    check::same(part(staging, 0, n), part(file, word(file, at + 32), n))
-}
-
-fn read_right(file: &[u8], at: usize, r: Decoded, dst: &[u8]) -> bool
-    requires { ⌜ at < 0xF_0000 ⌝ }
-{
-    let got = r.got;
-    let next = r.next;
-    let said = match got {
-        Got::NeedMore(used) => is_said(file, at, 0, 0, used),
-        Got::Packet(used, n) => is_said(file, at, 1, n, used),
-        Got::Refused(used, why) => is_said(file, at, 2, number_of(why) as usize, used),
-    };
-    if !said {
-        return false;
+    match codec::opening(long(file, at + 32)) {
+        Opened::Open(codec) => run_of(file, at, codec, is_said(file, at, DONE, 0)),
+        Opened::Refused(why, codec) => run_of(
+            file,
+            at,
+            codec,
+            is_said(file, at, number_of(why), 0),
+        ),
     }
-    is_left(file, at, next, dst)
 }
 
-fn written_right(file: &[u8], at: usize, r: Encoded, dst: &[u8]) -> bool
-    requires { ⌜ at < 0xF_0000 ⌝ }
-{
-    let put = r.put;
-    let next = r.next;
-    let said = match put {
-        Put::Next(n) => is_said(file, at, 1, n, 0),
-        Put::Refused(why) => is_said(file, at, 2, number_of(why) as usize, 0),
-    };
-    if !said {
-        return false;
-    }
-    is_left(file, at, next, dst)
-}
-
-// ---- the cases
-
-fn try_decode(staging: &mut [u8], dst: &mut [u8], file: &[u8], at: usize) -> bool
-    requires { ⌜ at < 0xF_0000 ⌝ }
-{
-    let src = part(file, word(file, at + 4), word(file, at + 8));
-    let r = codec::decode(state_at(file, at + 60), src, staging, dst);
-    if !read_right(file, at, r, dst) {
-        return false;
-    }
-    is_staged(file, at, staging)
-}
-
-fn try_encode(dst: &mut [u8], file: &[u8], at: usize) -> bool
-    requires { ⌜ at < 0xF_0000 ⌝ }
+fn try_encode(buf: &mut [u8], codec: PacketCodec, file: &[u8], at: usize) -> Run
+    requires { ⌜ at < 0x10_0000 ⌝ }
 {
     let packet = part(file, word(file, at + 4), word(file, at + 8));
-    let r = codec::encode(state_at(file, at + 60), packet, dst);
-    written_right(file, at, r, dst)
+    let r = codec::encode(codec, packet, buf);
+    let put = r.put;
+    run_of(file, at, r.next, is_put(file, at, put))
 }
 
-fn changed(kind: usize, codec: PacketCodec) -> PacketCodec {
-    match kind {
-        2 => codec::frames_on(codec),
-        3 => codec::reset_seq_id(codec),
-        4 => codec::sync_seq_id(codec),
-        _ => codec,
+fn try_decode(staging: &mut [u8], buf: &mut [u8], codec: PacketCodec, file: &[u8], at: usize) -> Run
+    requires { ⌜ at < 0x10_0000 ⌝ }
+{
+    let src = part(file, word(file, at + 4), word(file, at + 8));
+    let r = codec::decode(codec, src, staging, buf);
+    let got = r.got;
+    run_of(file, at, r.next, is_got(file, at, got))
+}
+
+// The operation at a place; both buffers are as long as its own.
+fn try_one(staging: &mut [u8], buf: &mut [u8], codec: PacketCodec, file: &[u8], at: usize) -> Run
+    requires { ⌜ at < 0x10_0000 ⌝ }
+{
+    wire::put_slice(buf, 0, part(file, word(file, 4), word(file, at + 16)));
+    match short(file, at) {
+        0 => try_opening(file, at),
+        1 => run_of(file, at, codec::frames_on(codec), true),
+        2 => run_of(file, at, codec::reset_seq_id(codec), true),
+        3 => run_of(file, at, codec::sync_seq_id(codec), true),
+        4 => try_encode(buf, codec, file, at),
+        5 => try_decode(staging, buf, codec, file, at),
+        _ => run_of(file, at, codec, false),
     }
 }
 
-fn try_change(kind: usize, file: &[u8], at: usize) -> bool
-    requires { ⌜ at < 0xF_0000 ⌝ }
+// The same with larger buffers, of which it is lent the front, and then with a look at what they hold.
+fn try_within(staging: &mut [u8], buf: &mut [u8], codec: PacketCodec, file: &[u8], at: usize) -> Run
+    requires { ⌜ at < 0x10_0000 ⌝ }
 {
-    if 4 < kind {
-        return false;
+    let first = word(file, at + 12);
+    let second = word(file, at + 16);
+    if staging.len() < first {
+        return run_of(file, at, codec, false);
     }
-    is_left(file, at, changed(kind, state_at(file, at + 60)), b"")
-}
-
-// Both buffers as the case has them.
-fn lay(staging: &mut [u8], dst: &mut [u8], file: &[u8], at: usize)
-    requires { ⌜ at < 0xF_0000 ⌝ }
-{
-    wire::put_slice(dst, 0, part(file, word(file, at + 12), word(file, at + 16)));
-    wire::put_slice(
-        staging,
-        0,
-        part(file, word(file, at + 24), word(file, at + 28)),
-    );
-}
-
-// The case at a place; the buffers are as long as the case's own.
-fn try_case(staging: &mut [u8], dst: &mut [u8], file: &[u8], at: usize) -> bool
-    requires { ⌜ at < 0xF_0000 ⌝ }
-{
-    lay(staging, dst, file, at);
-    let kind = word(file, at);
-    match kind {
-        0 => try_decode(staging, dst, file, at),
-        1 => try_encode(dst, file, at),
-        _ => try_change(kind, file, at),
+    if buf.len() < second {
+        return run_of(file, at, codec, false);
+    }
+    let r = try_one(&mut staging[..first], &mut buf[..second], codec, file, at);
+    Run {
+        codec: r.codec,
+        right: r.right && is_left(file, at, staging, buf),
     }
 }
 
@@ -235,117 +242,155 @@ fn say(what: &[u8], n: usize) {
     io::write_all(STDOUT_FILENO, b"\n");
 }
 
-// Whether a case is answered as it should be, on buffers of its lengths out of the larger ones.
-fn is_right(room: &mut [u8], space: &mut [u8], file: &[u8], at: usize) -> bool
-    requires { ⌜ at < 0xF_0000 ⌝ }
-{
-    let m = word(file, at + 28);
-    let n = word(file, at + 16);
-    if room.len() < m {
-        return false;
-    }
-    if space.len() < n {
-        return false;
-    }
-    try_case(&mut room[..m], &mut space[..n], file, at)
-}
-
-// 1 for a case that is answered otherwise, and says which.
-fn differs(room: &mut [u8], space: &mut [u8], file: &[u8], k: usize) -> usize
-    requires { ⌜ k < 6000 ⌝ }
+// 1 for an operation that went otherwise, and says which.
+fn differs(right: bool, k: usize) -> usize
     ensures { λ r. ⌜ r ≤ 1 ⌝ }
 {
-    if is_right(room, space, file, 4 + 156 * k) {
+    if right {
         return 0;
     }
-    say(b"differs: case ", k);
+    say(b"differs: operation ", k);
     1
 }
 
-// How many of the first n cases are answered otherwise; 6,000 cases are more than a file holds.
-fn differences(room: &mut [u8], space: &mut [u8], file: &[u8], n: usize) -> usize {
-    let mut count = 0;
-    let mut k = 0;
-    while k < 6000 {
-        if n <= k {
-            return count;
-        }
-        count += differs(room, space, file, k);
-        k += 1;
-    }
-    count
-}
-
-fn run_cases() {
-    let fd = os::open_read(b"vectors");
-    if fd < 0 {
-        os::fail(b"vectors");
-        return;
-    }
-    let mut buffer = [0u8; 262144];
-    let size = io::read_full(fd, &mut buffer);
-    libc::close(fd);
-    let file = &buffer[..size];
-    let mut room = [0u8; 4096];
-    let mut space = [0u8; 4096];
-    let n = word(file, 0);
-    say(b"cases ", n);
-    say(
-        b"  differences ",
-        differences(&mut room, &mut space, file, n),
-    );
-}
-
-// ---- a million frames
-
-// Numbers frames of seven bytes, from 0 on, over all of a buffer: their lengths are 0.
-fn number_frames(space: &mut [u8]) {
-    let mut number: u8 = 0;
-    let mut at = 3;
-    while at < space.len() {
-        space[at] = number;
-        number = std::num::wrapping_add_u8(number, 1);
-        at += 7;
-    }
-}
-
-fn opened(limit: usize) -> PacketCodec {
+fn open_codec(limit: usize) -> PacketCodec {
     match codec::opening(limit) {
         Opened::Open(codec) => codec,
         Opened::Refused(_, codec) => codec,
     }
 }
 
-fn used_by(got: Got) -> usize {
-    match got {
-        Got::NeedMore(used) => used,
-        Got::Packet(_, _) => 0,
-        Got::Refused(_, _) => 0,
+// How many of n operations, one after the other, went otherwise.
+fn differences(staging: &mut [u8], buf: &mut [u8], file: &[u8], n: usize) -> usize {
+    let mut codec = open_codec(0);
+    let mut count = 0;
+    let mut k = 0;
+    while k < MOST {
+        if n <= k {
+            return count;
+        }
+        let r = try_within(staging, buf, codec, file, 8 + 72 * k);
+        codec = r.codec;
+        count += differs(r.right, k);
+        k += 1;
+    }
+    count
+}
+
+fn one_if(it: bool) -> usize
+    ensures { λ r. ⌜ r ≤ 1 ⌝ }
+{
+    if it {
+        return 1;
+    }
+    0
+}
+
+// How many operations have a byte at an offset.
+fn having(file: &[u8], n: usize, offset: usize, byte: u8) -> usize {
+    let mut count = 0;
+    let mut at = std::num::wrapping_add_usize(8, offset);
+    let mut k = 0;
+    while k < n {
+        count += one_if(short(file, at) == byte);
+        at = std::num::wrapping_add_usize(at, 72);
+        k += 1;
+    }
+    count
+}
+
+fn say_kinds(file: &[u8], n: usize) {
+    say(b"  opening ", having(file, n, 0, 0));
+    say(b"  frames_on ", having(file, n, 0, 1));
+    say(b"  reset_seq_id ", having(file, n, 0, 2));
+    say(b"  sync_seq_id ", having(file, n, 0, 3));
+    say(b"  encode ", having(file, n, 0, 4));
+    say(b"  decode ", having(file, n, 0, 5));
+}
+
+fn say_answers(file: &[u8], n: usize) {
+    say(b"need more ", having(file, n, 1, 0));
+    say(b"refused: 1 bad limit ", having(file, n, 1, 1));
+    say(b"  2 too large ", having(file, n, 1, 2));
+    say(b"  3 out of sync ", having(file, n, 1, 3));
+    say(b"  4 bad frame header ", having(file, n, 1, 4));
+    say(b"  5 packed ", having(file, n, 1, 5));
+    say(b"  6 no room ", having(file, n, 1, 6));
+    say(b"  7 closed ", having(file, n, 1, 7));
+}
+
+// All operations of a file.
+fn run_file(file: &[u8]) {
+    let n = word(file, 0);
+    say(b"operations ", n);
+    if MOST < n {
+        io::write_all(STDOUT_FILENO, b"too many\n");
+        return;
+    }
+    say_kinds(file, n);
+    say_answers(file, n);
+    let mut staging = [0u8; 1024];
+    let mut space = [0u8; 1024];
+    io::print_decimal(
+        STDOUT_FILENO,
+        differences(&mut staging, &mut space, file, n) as u64,
+    );
+    io::write_all(STDOUT_FILENO, b" differ\n");
+}
+
+fn load(buffer: &mut [u8]) {
+    let fd = os::open_read(b"vectors");
+    if fd < 0 {
+        os::fail(b"vectors");
+        return;
+    }
+    let size = io::read_full(fd, buffer);
+    libc::close(fd);
+    run_file(part(buffer, 0, size));
+}
+
+fn run_operations() {
+    let mut buffer = [0u8; 786432];
+    load(&mut buffer);
+}
+
+// ---- a million frames with nothing in them
+
+// Frames of seven zeros get their numbers.
+fn number_frames(bytes: &mut [u8]) {
+    let n = bytes.len() / 7;
+    let mut k = 0;
+    while k < n {
+        bytes[7 * k + 3] = (k % 256) as u8;
+        k += 1;
     }
 }
 
-fn say_read(bytes: &[u8]) {
-    let mut staging = [0u8; 22];
-    let mut dst = [0u8; 9];
-    let r = codec::decode(codec::frames_on(opened(9)), bytes, &mut staging, &mut dst);
-    let next = r.next;
-    let got = r.got;
-    say(
-        b"frames with nothing in them, in one call ",
-        bytes.len() / 7,
+fn read_frames(bytes: &[u8]) {
+    let mut staging = [0u8; 4];
+    let mut space = [0u8; 4];
+    let r = codec::decode(
+        codec::frames_on(open_codec(9)),
+        bytes,
+        &mut staging,
+        &mut space,
     );
-    say(b"  bytes used ", used_by(got));
-    say(b"  frame number then ", next.frame as usize);
-    say(b"  chunk number then ", next.number as usize);
+    let got = r.got;
+    match got {
+        Got::NeedMore(used) => say(b"empty frames in one call, bytes used ", used),
+        Got::Packet(_, n) => say(b"empty frames: a packet of ", n),
+        Got::Refused(_, why) => say(b"empty frames: refused ", number_of(why) as usize),
+    }
+    say(b"the frame number then ", r.next.frame as usize);
 }
 
-fn run_million() {
-    let mut space = [0u8; 7000000];
-    number_frames(&mut space);
-    say_read(&space);
+fn run_empty_frames() {
+    let mut bytes = [0u8; 7000000];
+    number_frames(&mut bytes);
+    read_frames(&bytes);
 }
 
 fn main() {
-    run_cases();
-    run_million();
+    run_operations();
+    run_empty_frames();
 }

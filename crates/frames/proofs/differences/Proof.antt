@@ -1,18 +1,23 @@
 use lib.ListN.{length}
-use Prim.Native.Nat.{_≤_, _-_}
 use mathlib.Core.Path.{_≡_}
+use Prim.Native.Nat.{_≤_, _-_}
 use borrow.Author.Needs.{needs}
 use Rattle.frames.proofs.differences.Statement.{statement}
 use Rattle.frames.proofs.differences.Tie as tie
 use Rattle.frames.proofs.differences.Reads as reads
 use Rattle.frames.proofs.differences.Lts as lts
 use Rattle.frames.proofs.differs.Reads as differs-reads
+use Rattle.frames.proofs.open_codec.Reads as open-codec-reads
+use Rattle.frames.proofs.try_within.Reads as try-within-reads
 
 abbrev Inv-loop : tie.InvT-loop
-Inv-loop room₀ space₀ file n count₀ k₀ room space count k = (k ≤ 6000) × (count ≤ k) × (length room ≡ length room₀) × (length space ≡ length space₀)
+Inv-loop s₀ b₀ file n c₀ count₀ k₀ s b c count k = (k ≤ 10000) × (count ≤ k) × (length s ≡ length s₀) × (length b ≡ length b₀)
 
 abbrev μ-loop : tie.MeasureT-loop
-μ-loop room₀ space₀ file n count₀ k₀ room space count k = 6000 - k
+μ-loop s₀ b₀ file n c₀ count₀ k₀ s b c count k = 10000 - k
+
+open-codec-requires : tie.Need-open-codec-requires Inv-loop μ-loop
+open-codec-requires c κs = search needs
 
 loop-holds : tie.Need-loop-holds Inv-loop μ-loop
 loop-holds c = search needs
@@ -25,6 +30,15 @@ same-length-2 c = search needs
 
 returns : tie.Need-returns Inv-loop μ-loop
 returns c = search needs
+
+mul-try-within : tie.Need-mul-try-within Inv-loop μ-loop
+mul-try-within c = search needs
+
+add-try-within : tie.Need-add-try-within Inv-loop μ-loop
+add-try-within c = search needs
+
+try-within-requires : tie.Need-try-within-requires Inv-loop μ-loop
+try-within-requires c κs = search needs
 
 differs-requires : tie.Need-differs-requires Inv-loop μ-loop
 differs-requires c κs = search needs
@@ -56,10 +70,14 @@ differences-spec =
     (tie.spec
     Inv-loop
     μ-loop
+    open-codec-requires
     loop-holds
     same-length
     same-length-2
     returns
+    mul-try-within
+    add-try-within
+    try-within-requires
     differs-requires
     add-count
     add-k

@@ -1,38 +1,41 @@
-use lib.ListN.{length-set}
-use native.Mathlib.Omega.{arith}
 use lib.ListN.{length}
-use Prim.Native.Nat.{_≤_, _+_, _-_}
 use mathlib.Core.Path.{_≡_}
+use Prim.Native.Nat.{_≤_, _-_}
 use borrow.Author.Needs.{needs}
 use Rattle.frames.proofs.number_frames.Statement.{statement}
 use Rattle.frames.proofs.number_frames.Tie as tie
 use Rattle.frames.proofs.number_frames.Reads as reads
 use Rattle.frames.proofs.number_frames.Lts as lts
-use Rattle.std.proofs.num.wrapping_add_u8.Reads as wrapping-add-u8-reads
 
 abbrev Inv-loop : tie.InvT-loop
-Inv-loop space₀ number₀ at₀ space number at = (at ≤ length space + 7) × (length space ≡ length space₀)
+Inv-loop bytes₀ n k₀ bytes k = (k ≤ n) × (length bytes ≡ length bytes₀)
 
 abbrev μ-loop : tie.MeasureT-loop
-μ-loop space₀ number₀ at₀ space number at = length space₀ + 7 - at
+μ-loop bytes₀ n k₀ bytes k = n - k
 
 loop-holds : tie.Need-loop-holds Inv-loop μ-loop
 loop-holds c = search needs
 
-slice-write-space : tie.Need-slice-write-space Inv-loop μ-loop
-slice-write-space c = search needs
+cast-bytes : tie.Need-cast-bytes Inv-loop μ-loop
+cast-bytes c = search needs
 
-wrapping-add-u8-requires : tie.Need-wrapping-add-u8-requires Inv-loop μ-loop
-wrapping-add-u8-requires c κs = search needs
+mul-bytes : tie.Need-mul-bytes Inv-loop μ-loop
+mul-bytes c = search needs
 
-add-at : tie.Need-add-at Inv-loop μ-loop
-add-at c = search needs
+add-bytes : tie.Need-add-bytes Inv-loop μ-loop
+add-bytes c = search needs
+
+slice-write-bytes : tie.Need-slice-write-bytes Inv-loop μ-loop
+slice-write-bytes c = search needs
+
+add-k : tie.Need-add-k Inv-loop μ-loop
+add-k c = search needs
 
 loop-less : tie.Need-loop-less Inv-loop μ-loop
 loop-less c = search needs
 
 loop-again : tie.Need-loop-again Inv-loop μ-loop
-loop-again c = rw length-set (omega arith, c .before .before .loop .inv .1)
+loop-again c = search needs
 
 same-length : tie.Need-same-length Inv-loop μ-loop
 same-length c = search needs
@@ -47,9 +50,11 @@ number-frames-spec =
     Inv-loop
     μ-loop
     loop-holds
-    slice-write-space
-    wrapping-add-u8-requires
-    add-at
+    cast-bytes
+    mul-bytes
+    add-bytes
+    slice-write-bytes
+    add-k
     loop-less
     loop-again
     same-length
