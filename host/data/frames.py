@@ -381,7 +381,8 @@ def refusals(c):
             assert not framed or (w == want or want is None and len(w) == room), (w, want)
             c.write(b'A')
     # of the plain codec
-    for src, room, why in ((chunk(0, b'1234567'), 9, 2), (chunk(3, b'1234567')[:4], 9, 2), (chunk(3, b'1'), 9, 3), (chunk(3, b''), 9, 3), (chunk(0, b'123456'), 5, 6)):
+    for src, room, why in ((chunk(0, b'1234567'), 9, 2), (chunk(3, b'1234567')[:4], 9, 2), (chunk(3, b'1'), 9, 3),
+            (chunk(3, b''), 9, 3), (chunk(0, b'123456'), 5, 6)):
         c.open(6, False)
         assert c.read(src, 0, room) == (why, src)
         assert c.read(src, 0, 9)[0] == (b'123456' if why == 6 else 7)
@@ -589,6 +590,8 @@ def drawn(c, r, n):
                     peer.sync()
 
 def main(out):
+    if not __debug__:
+        sys.exit('frames.py: the operations stand in assertions, so not with -O')
     c = Cases()
     for part in (openings, corner, empty, many, refusals, cuts, kept, syncs, tolerance, plainly):
         was = len(c.rows)
