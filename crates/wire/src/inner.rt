@@ -59,11 +59,18 @@ fn run(dst: &mut [u8], at: usize, src: &[u8])
     }
 }
 
-// How many of n bytes come before the first place from `at` on that is a multiple of 16, if there are enough of them to be worth it.
+// How many of n bytes come before the first place from `at` on that is a multiple of 16, where that is worth it: not for a few bytes, and
+// not for so many that memory is slower than the stores.
 fn lead(at: usize, n: usize) -> usize
     ensures { λ r. ⌜ r ≤ n ⌝ }
 {
-    if n < 512 { 0 } else { (16 - at % 16) % 16 }
+    if n < 512 {
+        return 0;
+    }
+    if 0x10_0000 < n {
+        return 0;
+    }
+    (16 - at % 16) % 16
 }
 
 // The bytes of src from a place on. Behind a header of four bytes each wide store would straddle two lines of the cache, so a long
