@@ -1,12 +1,12 @@
 // Compiles the C to compare with, and links the port's archive (MISHKELDUR_ARCHIVE, or the repository's own; `none` leaves our side
 // out) and libmariadb, if it is there.
+#[path = "../oracle/archive.rs"]
+mod archive;
+
 use std::{env, path::PathBuf, process::Command};
 
 fn main() {
-    for cfg in ["archive", "packets", "mariadb"] {
-        println!("cargo::rustc-check-cfg=cfg({cfg})");
-    }
-    println!("cargo::rerun-if-env-changed=MISHKELDUR_ARCHIVE");
+    println!("cargo::rustc-check-cfg=cfg(mariadb)");
     let out = PathBuf::from(env::var("OUT_DIR").expect("cargo says it"));
     for name in ["plain", "walk"] {
         let object = out.join(format!("{name}.o"));
@@ -30,19 +30,5 @@ fn main() {
     } else {
         println!("cargo::warning=libmariadb is missing (Debian's libmariadb-dev): its column stays empty");
     }
-
-    let given = env::var("MISHKELDUR_ARCHIVE").unwrap_or_else(|_| "../../target/staticlib/libmishkeldur.a".into());
-    if given == "none" {
-        return;
-    }
-    let Ok(archive) = PathBuf::from(&given).canonicalize() else {
-        panic!("no archive at {given}: make it with `rt staticlib mishkeldur` in the repository's root, or set MISHKELDUR_ARCHIVE");
-    };
-    println!("cargo::rerun-if-changed={}", archive.display());
-    println!("cargo::rustc-link-arg-bins={}", archive.display());
-    println!("cargo::rustc-cfg=archive");
-    let symbols = Command::new("nm").arg("-g").arg("--defined-only").arg(&archive).output().expect("nm runs");
-    if String::from_utf8_lossy(&symbols.stdout).lines().any(|l| l.ends_with(" mk_read")) {
-        println!("cargo::rustc-cfg=packets");
-    }
+    archive::link();
 }

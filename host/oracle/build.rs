@@ -1,25 +1,7 @@
-// Links the port's archive: MISHKELDUR_ARCHIVE, or the repository's own. `none` builds without one: then our side is the plain
-// definition of src/model.rs, and the program says so.
-use std::{env, path::PathBuf, process::Command};
+// Without an archive our side is the plain definition of src/model.rs, and the program says so.
+#[path = "archive.rs"]
+mod archive;
 
 fn main() {
-    println!("cargo::rustc-check-cfg=cfg(archive)");
-    println!("cargo::rustc-check-cfg=cfg(packets)");
-    println!("cargo::rerun-if-env-changed=MISHKELDUR_ARCHIVE");
-    let given = env::var("MISHKELDUR_ARCHIVE").unwrap_or_else(|_| "../../target/staticlib/libmishkeldur.a".into());
-    if given == "none" {
-        return;
-    }
-    let archive = PathBuf::from(&given);
-    let Ok(archive) = archive.canonicalize() else {
-        panic!("no archive at {given}: make it with `rt staticlib mishkeldur` in the repository's root, or set MISHKELDUR_ARCHIVE");
-    };
-    println!("cargo::rerun-if-changed={}", archive.display());
-    println!("cargo::rustc-link-arg-bins={}", archive.display());
-    println!("cargo::rustc-cfg=archive");
-    // An archive that is still without packets has no mk_open.
-    let symbols = Command::new("nm").arg("-g").arg("--defined-only").arg(&archive).output().expect("nm runs");
-    if String::from_utf8_lossy(&symbols.stdout).lines().any(|l| l.ends_with(" mk_read")) {
-        println!("cargo::rustc-cfg=packets");
-    }
+    archive::link();
 }

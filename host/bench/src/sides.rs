@@ -20,31 +20,12 @@ unsafe extern "C" {
     ) -> c_int;
 }
 
+// The port's entries, as the oracle declares them.
 #[cfg(archive)]
-unsafe extern "C" {
-    pub fn mk_lenenc_int(s: *const u8, s_len: usize, at: usize, value: *mut u64, next: *mut usize) -> u8;
-    pub fn mk_put_lenenc_int(dst: *mut u8, dst_len: usize, at: usize, v: u64, next: *mut usize) -> u8;
-    pub fn mk_escaped(
-        dst: *mut u8, dst_len: usize, at: usize, input: *const u8, input_len: usize, no_backslash_escape: u8, next: *mut usize,
-    ) -> u8;
-    pub fn mk_read_row(
-        row: *const u8, row_len: usize, types: *const u8, types_len: usize, signs: *const u8, signs_len: usize, starts: *mut usize,
-        starts_len: usize, nulls: *mut usize, used: *mut usize,
-    ) -> u8;
-}
-
-#[cfg(packets)]
-unsafe extern "C" {
-    pub fn mk_open(state: *mut u8, state_len: usize, limit: usize) -> u8;
-    pub fn mk_frames_on(state: *mut u8, state_len: usize) -> u8;
-    pub fn mk_read(
-        state: *mut u8, state_len: usize, src: *const u8, src_len: usize, staging: *mut u8, staging_len: usize, packet: *mut u8,
-        packet_len: usize, used: *mut usize, len: *mut usize,
-    ) -> u8;
-    pub fn mk_write(
-        state: *mut u8, state_len: usize, packet: *const u8, packet_len: usize, dst: *mut u8, dst_len: usize, written: *mut usize,
-    ) -> u8;
-}
+#[path = "../../oracle/src/face.rs"]
+mod face;
+#[cfg(archive)]
+pub use face::*;
 
 #[cfg(mariadb)]
 unsafe extern "C" {
