@@ -34,8 +34,11 @@ unsent-requires-3 c κs = search needs
 
 returns-3 : tie.Need-returns-3
 returns-3 c =
-    let a = c .before .before .before .before .before .before .before .before .args in
-    rw (write-no-room largest (a .codec) (a .packet .now) (a .dst .now) (c .before .before .before .before .before .if1 .left) (c .before .before .before .if2 .left) (omega (arith, c .before .before .chunks-len .ensures)), c .unsent3 .ensures)
+    let within = c .before .before .before in
+    let live = within .before .before in
+    let a = live .before .before .before .args in
+    let n = c .before .before .chunks-len .ensures in
+    rw (write-no-room largest (a .codec) (a .packet .now) (a .dst .now) (live .if1 .left) (within .if2 .left) (omega (arith, n)), c .unsent3 .ensures)
 
 put-chunks-requires : tie.Need-put-chunks-requires
 put-chunks-requires c κs = omega (arith, c .before .before .chunks-len .ensures)
@@ -45,10 +48,13 @@ same-length c = search needs
 
 returns-4 : tie.Need-returns-4
 returns-4 c =
-    let a = c .before .before .before .before .before .before .before .before .before .before .before .args in
-    let n = c .before .before .before .before .before .chunks-len .ensures in
+    let sized = c .before .before .before .before .before in
+    let within = sized .before in
+    let live = within .before .before in
+    let a = live .before .before .before .args in
+    let n = sized .chunks-len .ensures in
     let p = c .before .before .put-chunks .ensures in
-    rw (write-whole largest (a .codec) (a .packet .now) (a .dst .now) (c .before .before .before .before .before .before .before .before .if1 .left) (c .before .before .before .before .before .before .if2 .left) (omega (arith, n)), n, p .0, p .1)
+    rw (write-whole largest (a .codec) (a .packet .now) (a .dst .now) (live .if1 .left) (within .if2 .left) (omega (arith, n)), n, p .0, p .1)
 
 pub packet-to-chunks-spec : {M : Type 1} → statement M
 packet-to-chunks-spec =

@@ -22,12 +22,15 @@ sub-left c = search needs
 returns : tie.Need-returns
 returns c =
     let a = c .before .before .before .args in
-    simp (le-ltb (length (quoted (a .no-backslash-escape) (a .input .now))) (2 ^ 64) (omega (arith, quoted-length (a .no-backslash-escape) (a .input .now))))
+    let q = quoted (a .no-backslash-escape) (a .input .now) in
+    simp (le-ltb (length q) (2 ^ 64) (omega (arith, quoted-length (a .no-backslash-escape) (a .input .now))))
 
 returns-2 : tie.Need-returns-2
 returns-2 c =
     let a = c .before .before .before .before .args in
-    simp (le-ltb (length (quoted (a .no-backslash-escape) (a .input .now))) (2 ^ 64) (omega (arith, quoted-length (a .no-backslash-escape) (a .input .now), c .before .before .mores .ensures)))
+    let q = quoted (a .no-backslash-escape) (a .input .now) in
+    let n = quoted-length (a .no-backslash-escape) (a .input .now) in
+    simp (le-ltb (length q) (2 ^ 64) (omega (arith, n, c .before .before .mores .ensures)))
 
 add-t9 : tie.Need-add-t9
 add-t9 c = search needs
@@ -38,8 +41,11 @@ add-t10 c = search needs
 returns-3 : tie.Need-returns-3
 returns-3 c =
     let a = c .before .before .before .before .args in
-    let e : length (a .input .now) + c .before .before .mores .result + 2 ≡ length (quoted (a .no-backslash-escape) (a .input .now)) = omega (arith, quoted-length (a .no-backslash-escape) (a .input .now), c .before .before .mores .ensures) in
-    simp (lt-ltb (length (quoted (a .no-backslash-escape) (a .input .now))) (2 ^ 64) (omega arith)) (ap gives e)
+    let more = c .before .before .mores in
+    let q = quoted (a .no-backslash-escape) (a .input .now) in
+    let n = quoted-length (a .no-backslash-escape) (a .input .now) in
+    let e : length (a .input .now) + more .result + 2 ≡ length q = omega (arith, n, more .ensures) in
+    simp (lt-ltb (length q) (2 ^ 64) (omega arith)) (ap gives e)
 
 pub escaped-len-spec : {M : Type 1} → statement M
 escaped-len-spec =

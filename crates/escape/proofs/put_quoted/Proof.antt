@@ -15,19 +15,26 @@ use Rattle.escape.proofs.put_quoted.Lts as lts
 use Rattle.escape.proofs.put_byte.Reads as put-byte-reads
 
 abbrev Inv-loop : tie.InvT-loop
-Inv-loop dst₀ at input no-backslash-escape next₀ i₀ dst next i = (i ≤ length input) × (next + length (rest no-backslash-escape input i) ≡ at + 1 + length (rest no-backslash-escape input 0)) × (patch dst next (rest no-backslash-escape input i) ≡ patch dst₀ (at + 1) (rest no-backslash-escape input 0)) × (length dst ≡ length dst₀)
+Inv-loop dst₀ at input mode next₀ i₀ dst next i =
+    (i ≤ length input)
+    × (next + length (rest mode input i) ≡ at + 1 + length (rest mode input 0))
+    × (patch dst next (rest mode input i) ≡ patch dst₀ (at + 1) (rest mode input 0))
+    × (length dst ≡ length dst₀)
 
 abbrev μ-loop : tie.MeasureT-loop
 μ-loop dst₀ at input no-backslash-escape next₀ i₀ dst next i = length input - i
 
 -- what is still to be written has room
-room : (c : tie.At-loop Inv-loop μ-loop) → c .loop .next + length (rest (c .before .before .before .args .no-backslash-escape) (c .before .before .before .args .input .now) (c .loop .i)) ≤ length (c .loop .dst)
+room : (c : tie.At-loop Inv-loop μ-loop)
+    → let a = c .before .before .before .args in
+    c .loop .next + length (rest (a .no-backslash-escape) (a .input .now) (c .loop .i)) ≤ length (c .loop .dst)
 room c =
     let a = c .before .before .before .args in
     omega (arith, simp length-set at (c .loop .inv .3), c .before .before .before .pre, ap length (rest-all (a .no-backslash-escape) (a .input .now)))
 
 -- behind the last byte it is the closing quote
-ended : (c : tie.After-loop Inv-loop μ-loop) → rest (c .before .before .before .before .args .no-backslash-escape) (c .before .before .before .before .args .input .now) (c .before .loop .i) ≡ quote ∷ []
+ended : (c : tie.After-loop Inv-loop μ-loop)
+    → let a = c .before .before .before .before .args in rest (a .no-backslash-escape) (a .input .now) (c .before .loop .i) ≡ quote ∷ []
 ended c =
     let a = c .before .before .before .before .args in
     rest-none (a .no-backslash-escape) (a .input .now) (c .before .loop .i) (omega arith)
@@ -52,7 +59,11 @@ put-byte-requires : tie.Need-put-byte-requires Inv-loop μ-loop
 put-byte-requires c κs =
     let p = c .before .before .before in
     let a = p .before .before .before .args in
-    omega (arith, room p, ap length (rest-more (a .no-backslash-escape) (a .input .now) (p .loop .i) (omega arith)), length-append (becomes (a .no-backslash-escape) (getD (a .input .now) (p .loop .i) 0)) (rest (a .no-backslash-escape) (a .input .now) (p .loop .i + 1)))
+    let mode = a .no-backslash-escape in
+    let s = a .input .now in
+    let i = p .loop .i in
+    let l = length-append (becomes mode (getD s i 0)) (rest mode s (i + 1)) in
+    omega (arith, room p, ap length (rest-more mode s i (omega arith)), l)
 
 add-i : tie.Need-add-i Inv-loop μ-loop
 add-i c = search needs
@@ -65,7 +76,8 @@ loop-again c =
     let p = c .before .before .before .before .before .before in
     let a = p .before .before .before .args in
     let did = c .before .before .put-byte in
-    let t = rest-turn (a .no-backslash-escape) (a .input .now) (p .loop .i) (p .loop .dst) (p .loop .next) (omega arith) (room p) (did .ensures .1) (did .ensures .0) in
+    let n = p .loop in
+    let t = rest-turn (a .no-backslash-escape) (a .input .now) (n .i) (n .dst) (n .next) (omega arith) (room p) (did .ensures .1) (did .ensures .0) in
     (omega arith, t .0 ∙ p .loop .inv .1, t .1 ∙ p .loop .inv .2, did .kept .0 ∙ p .loop .inv .3)
 
 slice-write-dst-2 : tie.Need-slice-write-dst-2 Inv-loop μ-loop
@@ -82,8 +94,16 @@ returns c =
     let l = c .before .loop in
     let a = c .before .before .before .before .args in
     let q = rest-all (a .no-backslash-escape) (a .input .now) in
-    let n : l .next + 1 ≡ a .at + 1 + length (rest (a .no-backslash-escape) (a .input .now) 0) = sym (ap (λ (n : ℕ). l .next + n) (ap length (ended c))) ∙ l .inv .1 in
-    (omega (arith, ap length q), patch-one (l .dst) (l .next) 39 (omega (arith, room (c .before), ap length (ended c))) ∙ sym (ap (patch (l .dst) (l .next)) (ended c)) ∙ l .inv .2 ∙ patch-cons (a .dst .now) (a .at) 39 (rest (a .no-backslash-escape) (a .input .now) 0) (omega (arith, ap length q)) ∙ sym (ap (patch (a .dst .now) (a .at)) q))
+    let all = rest (a .no-backslash-escape) (a .input .now) 0 in
+    let end = ended c in
+    let n : l .next + 1 ≡ a .at + 1 + length all = sym (ap (λ (n : ℕ). l .next + n) (ap length end)) ∙ l .inv .1 in (
+      omega (arith, ap length q),
+      patch-one (l .dst) (l .next) 39 (omega (arith, room (c .before), ap length end))
+          ∙ sym (ap (patch (l .dst) (l .next)) end)
+          ∙ l .inv .2
+          ∙ patch-cons (a .dst .now) (a .at) 39 all (omega (arith, ap length q))
+          ∙ sym (ap (patch (a .dst .now) (a .at)) q),
+    )
 
 pub put-quoted-spec : {M : Type 1} → statement M
 put-quoted-spec =

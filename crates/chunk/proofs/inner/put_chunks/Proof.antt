@@ -68,8 +68,12 @@ loop-again c =
     let put = c .before .before .before in
     let l = put .before .before .before .before in
     let s = l .before .before .before in
+    let a = s .args in
+    let n = l .loop in
+    let did = put .put-chunk in
     rw (c .wrapping-add-u8 .ensures)
-    (head-more (s .args .dst .now) (s .args .from) (s .args .first) (s .args .packet .now) (l .loop .dst) (l .loop .at) (l .loop .out) (l .loop .number) (l .loop .inv) (put .put-chunk .last .0) (omega arith) (s .pre) (put .put-chunk .kept .0) (put .put-chunk .ensures))
+    (head-more (a .dst .now) (a .from) (a .first) (a .packet .now) (n .dst) (n .at) (n .out) (n .number) (n .inv)
+    (did .last .0) (omega arith) (s .pre) (did .kept .0) (did .ensures))
 
 sub-put-chunk-2 : tie.Need-sub-put-chunk-2 Inv-loop μ-loop
 unfolding needed
@@ -100,9 +104,12 @@ unfolding next
 returns c =
     let put = c .before .before .before in
     let l = put .before .before .before .before in
-    let s = l .before .before .before in
+    let a = l .before .before .before .args in
+    let n = l .loop in
+    let did = put .put-chunk2 in
     rw (c .wrapping-add-u82 .ensures)
-    (head-last (s .args .dst .now) (s .args .from) (s .args .first) (s .args .packet .now) (l .loop .dst) (l .loop .at) (l .loop .out) (l .loop .number) (l .loop .inv) (put .put-chunk2 .last .0) (omega arith) (put .put-chunk2 .ensures))
+    (head-last (a .dst .now) (a .from) (a .first) (a .packet .now) (n .dst) (n .at) (n .out) (n .number) (n .inv)
+    (did .last .0) (omega arith) (did .ensures))
 
 pub put-chunks-spec : {M : Type 1} → statement M
 put-chunks-spec =

@@ -24,7 +24,8 @@ stop-requires c κs = search needs
 returns : tie.Need-returns
 returns c =
     let a = c .before .before .before .before .before .args in
-    let h : length (a .src .now) < a .len + 4 = omega (arith, ltb-true (length (a .src .now)) (4 + a .len) (sym (c .before .before .exceeds .ensures) ∙ c .before .if1 .taken)) in
+    let t = ltb-true (length (a .src .now)) (4 + a .len) (sym (c .before .before .exceeds .ensures) ∙ c .before .if1 .taken) in
+    let h : length (a .src .now) < a .len + 4 = omega (arith, t) in
     rw (chunk-short largest (a .x) (a .st) (a .len) (a .number) (a .src .now) (a .dst .now) h, c .stop .ensures)
 
 accepts-requires : tie.Need-accepts-requires
@@ -35,9 +36,12 @@ stop-requires-2 c κs = search needs
 
 returns-2 : tie.Need-returns-2
 returns-2 c =
-    let a = c .before .before .before .before .before .before .before .args in
-    let h : a .len + 4 ≤ length (a .src .now) = omega (arith, ltb-false (length (a .src .now)) (4 + a .len) (sym (c .before .before .before .before .exceeds .ensures) ∙ c .before .before .before .if1 .left)) in
-    rw (chunk-sync largest (a .x) (a .st) (a .len) (a .number) (a .src .now) (a .dst .now) h (sym (c .before .before .accepts .ensures) ∙ not-true _ (c .before .if2 .taken)), c .stop2 .ensures)
+    let there = c .before .before .before in
+    let a = there .before .before .before .before .args in
+    let t = ltb-false (length (a .src .now)) (4 + a .len) (sym (there .before .exceeds .ensures) ∙ there .if1 .left) in
+    let h : a .len + 4 ≤ length (a .src .now) = omega (arith, t) in
+    let other = sym (c .before .before .accepts .ensures) ∙ not-true _ (c .before .if2 .taken) in
+    rw (chunk-sync largest (a .x) (a .st) (a .len) (a .number) (a .src .now) (a .dst .now) h other, c .stop2 .ensures)
 
 exceeds-requires-2 : tie.Need-exceeds-requires-2
 exceeds-requires-2 c κs = search needs
@@ -47,14 +51,21 @@ stop-requires-3 c κs = search needs
 
 returns-3 : tie.Need-returns-3
 returns-3 c =
-    let a = c .before .before .before .before .before .before .before .before .before .args in
-    let h : a .len + 4 ≤ length (a .src .now) = omega (arith, ltb-false (length (a .src .now)) (4 + a .len) (sym (c .before .before .before .before .before .before .exceeds .ensures) ∙ c .before .before .before .before .before .if1 .left)) in
-    rw (chunk-no-room largest (a .x) (a .st) (a .len) (a .number) (a .src .now) (a .dst .now) h (sym (c .before .before .before .before .accepts .ensures) ∙ not-false _ (c .before .before .before .if2 .left)) (ltb-true _ _ (sym (c .before .before .exceeds2 .ensures) ∙ c .before .if3 .taken)), c .stop3 .ensures)
+    let right = c .before .before .before in
+    let there = right .before .before in
+    let a = there .before .before .before .before .args in
+    let t = ltb-false (length (a .src .now)) (4 + a .len) (sym (there .before .exceeds .ensures) ∙ there .if1 .left) in
+    let h : a .len + 4 ≤ length (a .src .now) = omega (arith, t) in
+    let same = sym (right .before .accepts .ensures) ∙ not-false _ (right .if2 .left) in
+    let over = ltb-true _ _ (sym (c .before .before .exceeds2 .ensures) ∙ c .before .if3 .taken) in
+    rw (chunk-no-room largest (a .x) (a .st) (a .len) (a .number) (a .src .now) (a .dst .now) h same over, c .stop3 .ensures)
 
 take-chunk-requires : tie.Need-take-chunk-requires
 take-chunk-requires c κs =
-    let a = c .before .before .before .before .before .before .before .before .before .args in
-    (omega (arith, ltb-false (length (a .src .now)) (4 + a .len) (sym (c .before .before .before .before .before .before .exceeds .ensures) ∙ c .before .before .before .before .before .if1 .left)), ltb-false _ _ (sym (c .before .before .exceeds2 .ensures) ∙ c .before .if3 .left))
+    let there = c .before .before .before .before .before in
+    let a = there .before .before .before .before .args in
+    let t = ltb-false (length (a .src .now)) (4 + a .len) (sym (there .before .exceeds .ensures) ∙ there .if1 .left) in
+    (omega (arith, t), ltb-false _ _ (sym (c .before .before .exceeds2 .ensures) ∙ c .before .if3 .left))
 
 same-length : tie.Need-same-length
 same-length c = search needs
@@ -64,8 +75,10 @@ returns-4 c =
     let p = c .before .before .before in
     let a = p .before .before .before .before .before .before .before .before .before .args in
     let r = take-chunk-requires p (c .before .before .take-chunk .lifetimes) in
+    let right = p .before .before .before in
+    let same = sym (right .before .accepts .ensures) ∙ not-false _ (right .if2 .left) in
     c .before .before .take-chunk .ensures
-    ∙ sym (chunk-took largest (a .x) (a .st) (a .len) (a .number) (a .src .now) (a .dst .now) (r .0) (sym (p .before .before .before .before .accepts .ensures) ∙ not-false _ (p .before .before .before .if2 .left)) (r .1))
+    ∙ sym (chunk-took largest (a .x) (a .st) (a .len) (a .number) (a .src .now) (a .dst .now) (r .0) same (r .1))
 
 pub chunk-spec : {M : Type 1} → statement M
 chunk-spec =

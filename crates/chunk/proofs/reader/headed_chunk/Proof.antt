@@ -30,9 +30,12 @@ same-length c = search needs
 
 returns : tie.Need-returns
 returns c =
-    let a = c .before .before .before .before .before .before .before .before .before .args in
-    let e = headed-empty largest (a .x) (a .st) (leAt (a .src .now) 0 3) (getD (a .src .now) 3 0) (a .src .now) (a .dst .now) (sym (c .before .before .before .before .before .before .le .ensures .0) ∙ c .before .before .before .before .if1 .taken) in
-    c .before .before .chunk .ensures ∙ sym e
+    let test = c .before .before .before .before in
+    let read = test .before .before in
+    let a = read .before .before .before .args in
+    let s = a .src .now in
+    let none = sym (read .le .ensures .0) ∙ test .if1 .taken in
+    c .before .before .chunk .ensures ∙ sym (headed-empty largest (a .x) (a .st) (leAt s 0 3) (getD s 3 0) s (a .dst .now) none)
 
 exceeds-requires : tie.Need-exceeds-requires
 exceeds-requires c κs = search needs
@@ -42,10 +45,14 @@ stop-requires c κs = search needs
 
 returns-2 : tie.Need-returns-2
 returns-2 c =
-    let a = c .before .before .before .before .before .before .before .before .args in
-    let l = c .before .before .before .before .before .le .ensures .0 in
-    let e = headed-large largest (a .x) (a .st) (leAt (a .src .now) 0 3) (getD (a .src .now) 3 0) (a .src .now) (a .dst .now) (rw l at (c .before .before .before .if1 .left)) (ltb-true (a .st .limit) (a .st .taken + leAt (a .src .now) 0 3) (rw l at (sym (c .before .before .exceeds .ensures) ∙ c .before .if2 .taken))) in
-    rw (e, c .stop .ensures)
+    let large = c .before .before in
+    let read = large .before .before .before in
+    let a = read .before .before .before .args in
+    let s = a .src .now in
+    let l = read .le .ensures .0 in
+    let some = rw l at (large .before .if1 .left) in
+    let over = ltb-true (a .st .limit) (a .st .taken + leAt s 0 3) (rw l at (sym (large .exceeds .ensures) ∙ c .before .if2 .taken)) in
+    rw (headed-large largest (a .x) (a .st) (leAt s 0 3) (getD s 3 0) s (a .dst .now) some over, c .stop .ensures)
 
 hold-requires : tie.Need-hold-requires
 hold-requires c κs = search needs
@@ -58,10 +65,17 @@ same-length-2 c = search needs
 
 returns-3 : tie.Need-returns-3
 returns-3 c =
-    let a = c .before .before .before .before .before .before .before .before .before .before .before .before .args in
-    let l = c .before .before .before .before .before .before .before .before .before .le .ensures .0 in
-    let e = headed-held largest (a .x) (a .st) (leAt (a .src .now) 0 3) (getD (a .src .now) 3 0) (a .src .now) (a .dst .now) (rw l at (c .before .before .before .before .before .before .before .if1 .left)) (ltb-false (a .st .limit) (a .st .taken + leAt (a .src .now) 0 3) (rw l at (sym (c .before .before .before .before .before .before .exceeds .ensures) ∙ c .before .before .before .before .before .if2 .left))) in
-    c .before .before .chunk2 .ensures ∙ rw (c .before .before .before .hold .ensures, l, e)
+    let held = c .before .before .before in
+    let test = held .before .before in
+    let large = test .before in
+    let read = large .before .before .before in
+    let a = read .before .before .before .args in
+    let s = a .src .now in
+    let l = read .le .ensures .0 in
+    let some = rw l at (large .before .if1 .left) in
+    let within = ltb-false (a .st .limit) (a .st .taken + leAt s 0 3) (rw l at (sym (large .exceeds .ensures) ∙ test .if2 .left)) in
+    let e = headed-held largest (a .x) (a .st) (leAt s 0 3) (getD s 3 0) s (a .dst .now) some within in
+    c .before .before .chunk2 .ensures ∙ rw (held .hold .ensures, l, e)
 
 pub headed-chunk-spec : {M : Type 1} → statement M
 headed-chunk-spec =
