@@ -2,7 +2,8 @@
 -- looks at the number of turns.
 use mathlib.Core.Path.{_≡_, refl, sym, ap, _∙_}
 use native.Mathlib.Omega.{arith}
-use native.Mathlib.Nat.{not-suc-le-zero}
+use native.Mathlib.Nat.{not-suc-le-zero, zero-add}
+use native.Mathlib.Decide.{decLe}
 use mathlib.Core.Bool.{Bool, true, false, cond}
 use mathlib.Core.List.{List, []}
 use Prim.Native.Nat.{ℕ, zero, suc, _+_, _≤_, _<_}
@@ -16,7 +17,8 @@ use Rattle.chunk.specs.declared.PlainPacketCodec.{PlainPacketCodec}
 use Rattle.chunk.specs.declared.Tolerance.{Tolerance}
 use Rattle.chunk.specs.declared.Answer.{Answer}
 use Rattle.chunk.specs.declared.Answer.the-variants as A
-use Rattle.chunk.specs.Read.{closed, holding, past, Held, none, held, heldOf, Answered, needMore, packet, refused, answerSaid, Done, Turned, stop, took, accepted, chunkAt, headed, turnFrom, turnOf, later, turns, opened, read}
+use Rattle.chunk.specs.Chunks.{next}
+use Rattle.chunk.specs.Read.{idle, closed, holding, past, Held, none, held, heldOf, Answered, needMore, packet, refused, answerSaid, Done, Turned, stop, took, accepted, chunkAt, headed, turnFrom, turnOf, later, turns, opened, read}
 
 -- ---- one chunk
 
@@ -85,6 +87,31 @@ module _ (m : ℕ) (x : Tolerance) (st : PlainPacketCodec) (u b : List ℕ) wher
   pub turn-held : (len num : ℕ) → heldOf st ≡ held len num → turnOf m x st u b ≡ chunkAt m x st len num u b
   unfolding turnOf turnFrom
   turn-held len num e = rw e
+
+-- a chunk that is taken is taken so whether its header was remembered or not
+held-took : (m : ℕ) (st : PlainPacketCodec) (l n len num : ℕ) (u b : List ℕ) → took m (holding st l n) len num u b ≡ took m st len num u b
+unfolding took
+held-took m st l n len num u b = refl
+
+-- a state that remembers no header takes a whole chunk with an accepted number, where it fits
+pub turn-takes : (m : ℕ) (x : Tolerance) (st : PlainPacketCodec) (u b : List ℕ) → heldOf st ≡ none → leAt u 0 3 + 4 ≤ length u
+    → accepted x (st .number) (getD u 3 0) ≡ true → st .taken + leAt u 0 3 ≤ st .limit → st .taken + leAt u 0 3 ≤ length b
+    → turnOf m x st u b ≡ took m st (leAt u 0 3) (getD u 3 0) u b
+turn-takes m x st u b e h a lim room =
+    let len = leAt u 0 3 in
+    let num = getD u 3 0 in
+    turn-headed m x st u b e (omega arith)
+    ∙ elim (decLe len 0) [
+      | yes z ↦
+          let none : len ≡ 0 = omega arith in
+          headed-empty m x st len num u b none
+          ∙ chunk-took m x st 0 num u b (omega arith) a (omega arith)
+          ∙ ap (λ (j : ℕ). took m st j num u b) (sym none)
+      | no z ↦
+          headed-held m x st len num u b (λ y. z (omega arith)) lim
+          ∙ chunk-took m x (holding st len num) len num u b h a room
+          ∙ held-took m st len num len num u b
+    ]
 
 -- ---- a turn uses no more bytes than there are, and four at least where it asks for another
 
@@ -194,6 +221,16 @@ module _ (m : ℕ) (x : Tolerance) (st : PlainPacketCodec) (u b : List ℕ) wher
   pub read-open : st .closed ≡ false → read m x st u b ≡ opened m x st u b
   unfolding read
   read-open e = rw e
+
+-- the common call: an open state that has begun nothing, and a whole packet of one chunk at the front
+pub read-whole : (m : ℕ) (x : Tolerance) (limit k : ℕ) (u b : List ℕ) → leAt u 0 3 + 4 ≤ length u → accepted x k (getD u 3 0) ≡ true → leAt u 0 3 ≤ limit
+    → leAt u 0 3 ≤ length b → (leAt u 0 3 ≡ m → ⊥) → read m x (idle limit k) u b
+    ≡ record { answer = packet (leAt u 0 3); used = leAt u 0 3 + 4; next = idle limit (next (getD u 3 0)); buf = patch b 0 (take (leAt u 0 3) (drop 4 u)) }
+read-whole m x limit k u b h e lim room last =
+    let st = idle limit k in
+    let t : turnOf m x st u b ≡ tookLast st (leAt u 0 3) (getD u 3 0) u b =
+    turn-takes m x st u b refl h e (omega arith) (omega arith) ∙ took-last m st (leAt u 0 3) (getD u 3 0) u b last in
+    read-open m x st u b refl ∙ opened-stop m x st u b (rw t refl) ∙ ap (λ (r : Turned). r .done) t ∙ rw (zero-add (leAt u 0 3)) refl
 
 -- ---- a call uses no more bytes than there are
 

@@ -20,8 +20,8 @@ use Rattle.chunk.specs.ChunksLaws.{chunks-last, chunks-more, needed-last
 use Rattle.chunk.specs.declared.PlainPacketCodec.{PlainPacketCodec}
 use Rattle.chunk.specs.declared.Tolerance.{Tolerance}
 use Rattle.chunk.specs.declared.Tolerance.the-variants.{Strict, Also}
-use Rattle.chunk.specs.Read.{idle, past, holding, renumbered, none, heldOf, packet, Done, accepted, took, turnOf, opened, later, read}
-use Rattle.chunk.specs.ReadLaws.{tookMore, tookLast, took-more, took-last, headed-empty, headed-held, chunk-took, turn-headed, opened-stop, opened-more, read-open}
+use Rattle.chunk.specs.Read.{idle, past, renumbered, none, heldOf, packet, Done, accepted, took, turnOf, opened, later, read}
+use Rattle.chunk.specs.ReadLaws.{tookMore, tookLast, took-more, took-last, turn-takes, opened-stop, opened-more, read-open}
 use Rattle.chunk.specs.Write.{write}
 use Rattle.chunk.specs.WriteLaws.{sent, write-whole}
 
@@ -45,11 +45,6 @@ pub expected : (x : Tolerance) (k : ℕ) → accepted x k k ≡ true
 expected Strict k = eq-eqb k k refl
 expected (Also y) k = rw (eq-eqb k k refl)
 
--- a chunk that is taken is taken so whether its header was remembered or not
-held-took : (m : ℕ) (st : PlainPacketCodec) (l n len num : ℕ) (u b : List ℕ) → took m (holding st l n) len num u b ≡ took m st len num u b
-unfolding took
-held-took m st l n len num u b = refl
-
 -- a reader that remembers no header takes a chunk with the expected number, whatever follows
 pub turn-chunk : (m : ℕ) (x : Tolerance) (st : PlainPacketCodec) (q r b : List ℕ) → heldOf st ≡ none → length q ≤ largest
     → st .taken + length q ≤ st .limit → st .taken + length q ≤ length b
@@ -59,19 +54,8 @@ turn-chunk m x st q r b e l lim room =
     let u : List ℕ = chunk k q ++ r in
     let long : length q + 4 ≤ length u = omega (arith, length-append (chunk k q) r, length-chunk k q) in
     let n : leAt u 0 3 ≡ length q = header-length k q r l in
-    turn-headed m x st u b e (omega arith)
-    ∙ rw (n, header-number k q r)
-    (elim (decLe (length q) 0) [
-      | yes z ↦
-          let zq : length q ≡ 0 = omega arith in
-          headed-empty m x st (length q) k u b zq
-          ∙ chunk-took m x st 0 k u b (omega arith) (expected x k) (omega arith)
-          ∙ ap (λ (j : ℕ). took m st j k u b) (sym zq)
-      | no z ↦
-          headed-held m x st (length q) k u b (λ y. z (omega arith)) lim
-          ∙ chunk-took m x (holding st (length q) k) (length q) k u b long (expected x k) room
-          ∙ held-took m st (length q) k (length q) k u b
-    ])
+    let a : accepted x k (getD u 3 0) ≡ true = rw (header-number k q r) (expected x k) in
+    turn-takes m x st u b e (rw n long) a (rw n lim) (rw n room) ∙ rw (n, header-number k q r) refl
 
 -- ---- a packet, by a state that is open, remembers no header and may have taken some bytes of it
 

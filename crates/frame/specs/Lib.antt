@@ -3,6 +3,7 @@ pub mod FramesLaws
 pub mod Codec
 pub mod Read
 pub mod ReadLaws
+pub mod WholeLaws
 pub mod StagingLaws
 pub mod CalmLaws
 pub mod PackedLaws

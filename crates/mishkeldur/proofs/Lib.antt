@@ -2,3 +2,4 @@ pub mod EntryLaws
 pub mod FaceLaws
 pub mod StoreLaws
 pub mod Unique
+pub mod WholeLaws

@@ -1,18 +1,17 @@
 -- How loading reads a codec's bytes, and how storing puts them one behind the other.
-use mathlib.Core.Path.{_≡_, refl, sym, ap, _∙_, subst}
+use mathlib.Core.Path.{_≡_, refl, sym, ap, _∙_}
 use mathlib.Core.Bool.{Bool, true, false, not, cond}
-use mathlib.Core.List.{List, [], _∷_, _++_, append-assoc}
-use Prim.Native.Nat.{ℕ, suc, _+_, _*_, _/_, _%_, _-_, _≤_, _<_}
+use mathlib.Core.List.{List, [], _∷_, _++_}
+use Prim.Native.Nat.{ℕ, _+_, _≤_, _<_}
 use native.Mathlib.Omega.{arith}
-use native.Mathlib.Nat.{add-zero}
-use lib.ListN.{length, take, drop, set, getD, length-append, length-take, length-drop, take-append-drop}
-use lib.Seq.{sets-eq, getD-take, getD-drop, drop-drop, take-all, length-take-le}
+use lib.ListN.{length, set, getD, length-append}
+use lib.Seq.{sets-eq}
 use lib.Dec.{eqb}
 use mir.Val.{boolByte}
-use Rattle.wire.specs.Le.{leOf, leAt, leBytes}
-use Rattle.wire.specs.LeLaws.{le-length, le-more, le-none}
+use Rattle.wire.specs.Le.{leAt, leBytes}
+use Rattle.wire.specs.LeLaws.{le-length, le-part}
 use Rattle.wire.specs.Room.{patch}
-use Rattle.wire.specs.RoomLaws.{patch-append}
+use Rattle.wire.specs.RoomLaws.{patch-append, patch-same}
 use Rattle.frame.specs.declared.PacketCodec.{PacketCodec}
 use Rattle.mishkeldur.specs.Face.{flagNo}
 use Rattle.mishkeldur.specs.State.{mark, codecOf, stateBytes, keeping}
@@ -74,67 +73,6 @@ stored s c m {l₁} {l₂} {l₃} {l₄} {l₅} h e p₁ p₂ p₃ p₄ p₅ =
     let r₄ = further s b₃ 32 (c .size) n₃ (omega arith) r₃ p₄ in
     further s b₄ 40 (c .len) n₄ (omega arith) r₄ p₅
 
--- ---- numbers of eight bytes, as two halves, and those that stand there already
-
-module _ (s : List ℕ) (at : ℕ) where
-  pub four-bytes : at + 4 ≤ length s → leAt s at 4 ≡ getD s at 0 + getD s (at + 1) 0 * 256 + getD s (at + 2) 0 * 65536 + getD s (at + 3) 0 * 16777216
-  four-bytes h =
-      let first : leAt s at 4 ≡ getD s at 0 + 256 * leOf (drop 1 (take 4 (drop at s))) = rw add-zero at (le-more s at 4 h 0 (omega arith)) in
-      omega (arith, first, le-more s at 4 h 1 (omega arith), le-more s at 4 h 2 (omega arith), le-more s at 4 h 3 (omega arith), le-none s at 4 h)
-
-  pub two-halves : at + 8 ≤ length s → leAt s at 8 ≡ leAt s at 4 + leAt s (at + 4) 4 * 4294967296
-  two-halves h =
-      let x = le-more s at 8 h in
-      let y = le-more s (at + 4) 4 (omega arith) in
-      let first : leAt s at 8 ≡ getD s at 0 + 256 * leOf (drop 1 (take 8 (drop at s))) = rw add-zero at (x 0 (omega arith)) in
-      let fifth : leAt s (at + 4) 4 ≡ getD s (at + 4) 0 + 256 * leOf (drop 1 (take 4 (drop (at + 4) s))) = rw add-zero at (y 0 (omega arith)) in
-      let sixth : getD s (at + 4 + 1) 0 ≡ getD s (at + 5) 0 = ap (λ (k : ℕ). getD s k 0) (omega arith) in
-      let seventh : getD s (at + 4 + 2) 0 ≡ getD s (at + 6) 0 = ap (λ (k : ℕ). getD s k 0) (omega arith) in
-      let eighth : getD s (at + 4 + 3) 0 ≡ getD s (at + 7) 0 = ap (λ (k : ℕ). getD s k 0) (omega arith) in
-      omega (
-        arith,
-        first,
-        x 1 (omega arith),
-        x 2 (omega arith),
-        x 3 (omega arith),
-        x 4 (omega arith),
-        x 5 (omega arith),
-        x 6 (omega arith),
-        x 7 (omega arith),
-        le-none s at 8 h,
-        fifth,
-        y 1 (omega arith),
-        y 2 (omega arith),
-        y 3 (omega arith),
-        le-none s (at + 4) 4 (omega arith),
-        sixth,
-        seventh,
-        eighth,
-        four-bytes (omega arith),
-      )
-
--- bytes as the number that they spell, and back
-le-forth : (bs : List ℕ) → ((i : ℕ) → i < length bs → getD bs i 0 < 256) → leBytes (length bs) (leOf bs) ≡ bs
-unfolding leBytes leOf
-le-forth [] h = refl
-le-forth (b ∷ bs) h =
-    let l : b < 256 = h 0 (omega arith) in
-    let e : (b + 256 * leOf bs) % 256 ≡ b = omega arith in
-    let f : (b + 256 * leOf bs) / 256 ≡ leOf bs = omega arith in
-    rw (e, f) (ap (λ (x : List ℕ). b ∷ x) (le-forth bs (λ i q. h (suc i) (omega arith))))
-
--- what stands at a place, put there again
-again : (s : List ℕ) (at k : ℕ) → at + k ≤ length s → s ≡ patch s at (take k (drop at s))
-again s at k h =
-    let n : length (take k (drop at s)) ≡ k = length-take-le k (drop at s) (omega (arith, length-drop at s)) in
-    let e : drop (at + length (take k (drop at s))) s ≡ drop k (drop at s) = ap (λ (m : ℕ). drop (at + m) s) n ∙ sym (drop-drop k at s) in
-    sym (rw (e, append-assoc) (ap (λ (x : List ℕ). take at s ++ x) (take-append-drop k (drop at s)) ∙ take-append-drop at s))
-
 -- a number that stands at a place already: writing it changes nothing
 pub stands : (s : List ℕ) (at v : ℕ) → at + 8 ≤ length s → ((i : ℕ) → getD s i 0 < 256) → leAt s at 8 ≡ v → s ≡ patch s at (leBytes 8 v)
-stands s at v h byte e =
-    let part = take 8 (drop at s) in
-    let n : length part ≡ 8 = length-take-le 8 (drop at s) (omega (arith, length-drop at s)) in
-    let small : (i : ℕ) → i < length part → getD part i 0 < 256 = λ i q. let q′ : i < 8 = omega (arith, n) in rw (getD-take, getD-drop) (byte (at + i)) in
-    let f : leBytes 8 v ≡ part = ap (leBytes 8) (sym e) ∙ subst (λ (k : ℕ). leBytes k (leOf part) ≡ part) n (le-forth part small) in
-    again s at 8 h ∙ ap (patch s at) (sym f)
+stands s at v h byte e = sym (patch-same s at 8 h) ∙ ap (patch s at) (sym (ap (leBytes 8) (sym e) ∙ le-part s at 8 h byte))

@@ -1,4 +1,5 @@
 pub mod Face
 pub mod State
 pub mod StateLaws
+pub mod Whole
 pub mod Values

@@ -12,8 +12,13 @@ use refusal::Refusal;
 use refusal::number_of;
 use state::load;
 use state::store;
+use state::whole;
+use state::whole_frame;
 use wire::Put;
+use wire::inner::copy;
 ghost use mathlib.Core.Path.{_≡_};
+ghost use Prim.Native.Nat.{_≤_};
+ghost use lib.ListN.{length};
 ghost use Rattle.wire.specs.Room.{putSaid};
 ghost use Rattle.frame.specs.Codec.{renumbered};
 ghost use Rattle.codec.specs.Connection.{framesOn, synced};
@@ -144,9 +149,8 @@ pub extern "C" fn mk_look(
     0
 }
 
-// Reads a packet out of src into the packet buffer, by way of staging where frames are on: 0 and its length, or 255 for more.
-#[no_mangle]
-pub extern "C" fn mk_read(
+// Reads by way of the codec.
+fn read_codec(
     state: &mut [u8],
     src: &[u8],
     staging: &mut [u8],
@@ -154,13 +158,10 @@ pub extern "C" fn mk_read(
     used: &mut usize,
     len: &mut usize,
 ) -> u8
+    requires { ⌜ 128 ≤ length (now state) ⌝ }
     ensures { λ r. ⌜ Reads (now (state .entry)) (now (src .entry)) (now (staging .entry)) (now (packet .entry)) (now (len .entry)) r
         (now (state .exit)) (now (staging .exit)) (now (packet .exit)) (now (used .exit)) (now (len .exit)) ⌝ }
 {
-    if state.len() < STATE_SIZE {
-        *used = 0;
-        return number_of(Refusal::NoRoom);
-    }
     let codec = load(state);
     if codec.closed {
         *used = 0;
@@ -185,6 +186,44 @@ pub extern "C" fn mk_read(
             number_of(r)
         }
     }
+}
+
+// Reads a packet out of src into the packet buffer, by way of staging where frames are on: 0 and its length, or 255 for more. Where a
+// whole packet is there and nothing is begun, it is read at once, and of the state no more than its numbers are touched.
+#[no_mangle]
+pub extern "C" fn mk_read(
+    state: &mut [u8],
+    src: &[u8],
+    staging: &mut [u8],
+    packet: &mut [u8],
+    used: &mut usize,
+    len: &mut usize,
+) -> u8
+    ensures { λ r. ⌜ Reads (now (state .entry)) (now (src .entry)) (now (staging .entry)) (now (packet .entry)) (now (len .entry)) r
+        (now (state .exit)) (now (staging .exit)) (now (packet .exit)) (now (used .exit)) (now (len .exit)) ⌝ }
+{
+    if state.len() < STATE_SIZE {
+        *used = 0;
+        return number_of(Refusal::NoRoom);
+    }
+    let n = whole(state, src, packet.len());
+    if n != 0 {
+        copy(packet, 0, &src[4..n]);
+        state[1] = std::num::wrapping_add_u8(state[1], 1);
+        *used = n;
+        *len = n - 4;
+        return 0;
+    }
+    let n = whole_frame(state, src, staging.len(), packet.len());
+    if n != 0 {
+        copy(packet, 0, &src[11..n]);
+        state[1] = std::num::wrapping_add_u8(state[1], 1);
+        state[4] = std::num::wrapping_add_u8(state[4], 1);
+        *used = n;
+        *len = n - 11;
+        return 0;
+    }
+    read_codec(state, src, staging, packet, used, len)
 }
 
 // Writes a packet to the front of dst, as chunks or as frames, and says how many bytes that took.

@@ -1,13 +1,17 @@
 // A codec in a lent byte slice. Every content of the slice is some codec, so nothing is asked of it but its length.
+use chunk::MAX_PAYLOAD_LEN;
 use frame::PacketCodec;
+use wire::inner::eight;
+use wire::inner::le;
 use wire::inner::put_le;
 ghost use mathlib.Core.Path.{_≡_};
-ghost use mathlib.Core.Bool.{cond};
-ghost use Prim.Native.Nat.{_+_, _≤_, _<_};
+ghost use mathlib.Core.Bool.{cond, true};
+ghost use Prim.Native.Nat.{_+_, _≤_};
 ghost use lib.ListN.{length};
-ghost use Rattle.wire.specs.Le.{leAt, leBytes};
+ghost use Rattle.wire.specs.Le.{leBytes};
 ghost use Rattle.wire.specs.Room.{patch};
 ghost use Rattle.mishkeldur.specs.State.{mark, codecOf, keeping};
+ghost use Rattle.mishkeldur.specs.Whole.{Idle, Chunk, Whole, IdleFramed, Header, WholeFrame};
 
 // The first byte of an open state. That of a closed one is 0.
 const MARK: u8 = 0x4B;
@@ -17,25 +21,6 @@ fn mark_of(closed: bool) -> u8
     ensures { λ r. ⌜ r ≡ cond closed 0 mark ⌝ }
 {
     if closed { 0 } else { MARK }
-}
-
-// The number in the four bytes at a place.
-fn half(s: &[u8], at: usize) -> u64
-    requires { ⌜ at + 4 ≤ length (now s) ⌝ }
-    ensures { λ r. ⌜ (r ≡ leAt (now (s .entry)) at 4) × (r < 0x1_0000_0000) ⌝ }
-{
-    let b = s[at + 1];
-    let c = s[at + 2];
-    let d = s[at + 3];
-    s[at] as u64 + b as u64 * 0x100 + c as u64 * 0x1_0000 + d as u64 * 0x100_0000
-}
-
-// The number in the eight bytes at a place. In two halves, each a sum: so the compiler sees that they are one load.
-fn eight(s: &[u8], at: usize) -> u64
-    requires { ⌜ at + 8 ≤ length (now s) ⌝ }
-    ensures { λ r. ⌜ r ≡ leAt (now (s .entry)) at 8 ⌝ }
-{
-    half(s, at) + half(s, at + 4) * 0x1_0000_0000
 }
 
 // A count as eight bytes. Most calls change none of the counts, and what stands there already is not written again.
@@ -76,6 +61,137 @@ pub(crate) fn load(state: &[u8]) -> PacketCodec
         held: held == 1,
         coming,
         framed: framed == 1,
+    }
+}
+
+// Whether the bytes of a state are those of an open codec that has begun nothing, in a mode: 1 is frames on.
+fn idle(state: &[u8], mode: u8) -> bool
+    requires { ⌜ 48 ≤ length (now state) ⌝ }
+    ensures { λ r. ⌜ (r ≡ true → Idle mode (now (state .entry))) ⌝ }
+{
+    if state[0] != MARK {
+        return false;
+    }
+    if state[2] != 0 {
+        return false;
+    }
+    if state[3] != 0 {
+        return false;
+    }
+    if state[5] != 0 {
+        return false;
+    }
+    if state[7] != mode {
+        return false;
+    }
+    if eight(state, 24) != 0 {
+        return false;
+    }
+    eight(state, 40) == 0
+}
+
+// Whether len bytes of a packet stand at a place of src, as its one chunk with the state's number, and may be taken.
+fn one_chunk(state: &[u8], src: &[u8], at: usize, room: usize, len: usize) -> bool
+    requires { ⌜ (48 ≤ length (now state)) × (at + 4 + len ≤ length (now src)) ⌝ }
+    ensures { λ r. ⌜ (r ≡ true → Chunk (now (state .entry)) (now (src .entry)) at room len) ⌝ }
+{
+    if le(src, at, 3) != len as u64 {
+        return false;
+    }
+    if src[at + 3] != state[1] {
+        return false;
+    }
+    if eight(state, 8) < len as u64 {
+        return false;
+    }
+    if room < len {
+        return false;
+    }
+    len != MAX_PAYLOAD_LEN
+}
+
+// The common case, told without taking the codec apart: how many bytes the chunk at the front of src takes, where nothing is begun and
+// it is a whole packet that may be taken; else 0, and nothing is told.
+pub(crate) fn whole(state: &[u8], src: &[u8], room: usize) -> usize
+    requires { ⌜ 48 ≤ length (now state) ⌝ }
+    ensures { λ r. ⌜ ((r ≡ 0 → ⊥) → Whole (now (state .entry)) (now (src .entry)) room r) ⌝ }
+{
+    if src.len() < 4 {
+        return 0;
+    }
+    if !idle(state, 0) {
+        return 0;
+    }
+    let len = le(src, 0, 3) as usize;
+    if src.len() - 4 < len {
+        return 0;
+    }
+    if one_chunk(state, src, 0, room, len) {
+        len + 4
+    } else {
+        0
+    }
+}
+
+// The same with frames on, no frame remembered and nothing unread.
+fn idle_framed(state: &[u8]) -> bool
+    requires { ⌜ 48 ≤ length (now state) ⌝ }
+    ensures { λ r. ⌜ (r ≡ true → IdleFramed (now (state .entry))) ⌝ }
+{
+    if !idle(state, 1) {
+        return false;
+    }
+    if state[6] != 0 {
+        return false;
+    }
+    if eight(state, 16) != 0 {
+        return false;
+    }
+    eight(state, 32) == 0
+}
+
+// Whether src begins with the header of a stored frame that has the next frame's number, and whose bytes may be taken.
+fn stored_frame(state: &[u8], src: &[u8], staging: usize, size: usize) -> bool
+    requires { ⌜ (48 ≤ length (now state)) × (7 ≤ length (now src)) ⌝ }
+    ensures { λ r. ⌜ (r ≡ true → Header (now (state .entry)) (now (src .entry)) staging size) ⌝ }
+{
+    if src[3] != state[4] {
+        return false;
+    }
+    if le(src, 4, 3) != 0 {
+        return false;
+    }
+    if eight(state, 8) < size as u64 {
+        return false;
+    }
+    size <= staging
+}
+
+// The same with frames on: how many bytes a frame takes that holds just such a chunk.
+pub(crate) fn whole_frame(state: &[u8], src: &[u8], staging: usize, room: usize) -> usize
+    requires { ⌜ 48 ≤ length (now state) ⌝ }
+    ensures { λ r. ⌜ ((r ≡ 0 → ⊥) → WholeFrame (now (state .entry)) (now (src .entry)) staging room r) ⌝ }
+{
+    if src.len() < 11 {
+        return 0;
+    }
+    if !idle_framed(state) {
+        return 0;
+    }
+    let size = le(src, 0, 3) as usize;
+    if size < 4 {
+        return 0;
+    }
+    if src.len() - 7 < size {
+        return 0;
+    }
+    if !stored_frame(state, src, staging, size) {
+        return 0;
+    }
+    if one_chunk(state, src, 7, room, size - 4) {
+        size + 7
+    } else {
+        0
     }
 }
 

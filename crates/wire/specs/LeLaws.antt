@@ -1,9 +1,10 @@
 -- Laws of little-endian numbers, over the width.
-use mathlib.Core.Path.{_≡_, refl, sym, ap, _∙_}
+use mathlib.Core.Path.{_≡_, refl, sym, ap, _∙_, subst}
 use mathlib.Core.List.{List, [], _∷_}
 use Prim.Native.Nat.{ℕ, zero, suc, _+_, _*_, _/_, _%_, _≤_, _<_, _^_, _-_}
 use native.Mathlib.Omega.{arith}
 use native.Mathlib.Numerals.{add-one}
+use native.Mathlib.Nat.{add-zero}
 use lib.ListN.{length, take, drop, getD, length-take, length-drop, drop-of-length-le}
 use lib.Seq.{drop-cons, getD-take, getD-drop, take-all, drop-length}
 use lib.Pow.{pow-mono, pow-add}
@@ -60,3 +61,60 @@ module _ (k i v rest : ℕ) (h : i < k) (e : leBytes (k - i) rest ≡ drop i (le
 
   pub bytes-next : leBytes (k - suc i) (rest / 256) ≡ drop (suc i) (leBytes k v)
   bytes-next = cc both
+
+-- ---- numbers of eight bytes, as two halves
+
+module _ (s : List ℕ) (at : ℕ) where
+  pub four-bytes : at + 4 ≤ length s → leAt s at 4 ≡ getD s at 0 + getD s (at + 1) 0 * 256 + getD s (at + 2) 0 * 65536 + getD s (at + 3) 0 * 16777216
+  four-bytes h =
+      let first : leAt s at 4 ≡ getD s at 0 + 256 * leOf (drop 1 (take 4 (drop at s))) = rw add-zero at (le-more s at 4 h 0 (omega arith)) in
+      omega (arith, first, le-more s at 4 h 1 (omega arith), le-more s at 4 h 2 (omega arith), le-more s at 4 h 3 (omega arith), le-none s at 4 h)
+
+  pub two-halves : at + 8 ≤ length s → leAt s at 8 ≡ leAt s at 4 + leAt s (at + 4) 4 * 4294967296
+  two-halves h =
+      let x = le-more s at 8 h in
+      let y = le-more s (at + 4) 4 (omega arith) in
+      let first : leAt s at 8 ≡ getD s at 0 + 256 * leOf (drop 1 (take 8 (drop at s))) = rw add-zero at (x 0 (omega arith)) in
+      let fifth : leAt s (at + 4) 4 ≡ getD s (at + 4) 0 + 256 * leOf (drop 1 (take 4 (drop (at + 4) s))) = rw add-zero at (y 0 (omega arith)) in
+      let sixth : getD s (at + 4 + 1) 0 ≡ getD s (at + 5) 0 = ap (λ (k : ℕ). getD s k 0) (omega arith) in
+      let seventh : getD s (at + 4 + 2) 0 ≡ getD s (at + 6) 0 = ap (λ (k : ℕ). getD s k 0) (omega arith) in
+      let eighth : getD s (at + 4 + 3) 0 ≡ getD s (at + 7) 0 = ap (λ (k : ℕ). getD s k 0) (omega arith) in
+      omega (
+        arith,
+        first,
+        x 1 (omega arith),
+        x 2 (omega arith),
+        x 3 (omega arith),
+        x 4 (omega arith),
+        x 5 (omega arith),
+        x 6 (omega arith),
+        x 7 (omega arith),
+        le-none s at 8 h,
+        fifth,
+        y 1 (omega arith),
+        y 2 (omega arith),
+        y 3 (omega arith),
+        le-none s (at + 4) 4 (omega arith),
+        sixth,
+        seventh,
+        eighth,
+        four-bytes (omega arith),
+      )
+
+-- bytes as the number that they spell, and back
+pub le-forth : (bs : List ℕ) → ((i : ℕ) → i < length bs → getD bs i 0 < 256) → leBytes (length bs) (leOf bs) ≡ bs
+unfolding leBytes leOf
+le-forth [] h = refl
+le-forth (b ∷ bs) h =
+    let l : b < 256 = h 0 (omega arith) in
+    let e : (b + 256 * leOf bs) % 256 ≡ b = omega arith in
+    let f : (b + 256 * leOf bs) / 256 ≡ leOf bs = omega arith in
+    rw (e, f) (ap (λ (x : List ℕ). b ∷ x) (le-forth bs (λ i q. h (suc i) (omega arith))))
+
+-- the k bytes at a place, as the number that they spell and back
+pub le-part : (s : List ℕ) (at k : ℕ) → at + k ≤ length s → ((i : ℕ) → getD s i 0 < 256) → leBytes k (leAt s at k) ≡ take k (drop at s)
+le-part s at k h byte =
+    let part = take k (drop at s) in
+    let n : length part ≡ k = part-length s at k h in
+    let small : (i : ℕ) → i < length part → getD part i 0 < 256 = λ i q. let q′ : i < k = omega (arith, n) in rw (getD-take, getD-drop) (byte (at + i)) in
+    subst (λ (j : ℕ). leBytes j (leOf part) ≡ part) n (le-forth part small)

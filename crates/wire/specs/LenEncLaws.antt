@@ -175,3 +175,8 @@ byte-str-by s at p false e = let z : _≡_ {A = ℕ} 0 1 = cc e in absurd (omega
 pub byte-str-within : (s : List ℕ) (at : ℕ) (p : LenEncStr) → byteStrAt s at ≡ gives p → p .at + p .len ≤ length s
 unfolding byteStrAt
 byte-str-within s at p e = byte-str-by s at p (ltb at (length s)) e
+
+-- a length below 251 is its byte
+pub str-short : (s : List ℕ) (at : ℕ) → at < length s → getD s at 0 < 251 → strAt s at ≡ within s (at + 1) (getD s at 0)
+unfolding strAt lenAt
+str-short s at l h = simp (lt-ltb _ _ l, lt-ltb _ _ h, add-zero)

@@ -3,10 +3,10 @@ use mathlib.Core.Path.{_≡_, refl, sym, ap, _∙_, subst}
 use mathlib.Core.List.{List, [], _∷_, _++_, append-assoc}
 use Prim.Native.Nat.{ℕ, suc, _+_, _-_, _≤_, _<_}
 use native.Mathlib.Numerals.{add-one}
-use native.Mathlib.Nat.{add-assoc}
+use native.Mathlib.Nat.{add-assoc, add-zero}
 use native.Mathlib.Omega.{arith}
 use lib.ListN.{length, take, drop, set, length-set, length-append, length-take, length-drop, take-append-drop}
-use lib.Seq.{paste, take-length, sets, sets-eq, take-at, drop-at, drop-append-add, drop-drop, length-take-le}
+use lib.Seq.{paste, take-length, take-add, take-take, take-append-le, drop-append-le, sets, sets-eq, take-at, drop-at, drop-append-add, drop-drop, length-take-le}
 use borrow.Author.Tests.{le-leb, lt-leb, leb-true, leb-false}
 use mathlib.Core.Bool.{Bool, true, false}
 use lib.Dec.{leb}
@@ -42,17 +42,138 @@ patch-append d at bs cs h =
     rw (sym front, drop-append-add) (rw (drop-drop, front) (rw (add-assoc))) in
     rw (t, u, length-append) (rw (append-assoc (take at d) bs cs))
 
--- a run in two parts: its first n bytes, and the rest behind them
-pub patch-split : (d : List ℕ) (at n : ℕ) (s : List ℕ) → n ≤ length s → at + length s ≤ length d
-    → patch (patch d at (take n s)) (at + n) (take (length s - n) (drop n s)) ≡ patch d at s
-patch-split d at n s h r =
-    let front : length (take n s) ≡ n = length-take-le n s h in
-    let rest : length (drop n s) ≡ length s - n = length-drop n s in
-    let whole : take (length s - n) (drop n s) ≡ drop n s = subst (λ (k : ℕ). take k (drop n s) ≡ drop n s) rest (take-length (drop n s)) in
-    rw whole
-    (subst (λ (k : ℕ). patch (patch d at (take n s)) (at + k) (drop n s) ≡ patch d at (take n s ++ drop n s)) front
-    (patch-append d at (take n s) (drop n s) (omega (arith, front, rest)))
-    ∙ ap (patch d at) (take-append-drop n s))
+-- other bytes at the same place, no fewer: nothing is left of the first
+patch-again : (d : List ℕ) (at : ℕ) (bs cs : List ℕ) → length bs ≤ length cs → at + length cs ≤ length d → patch (patch d at bs) at cs ≡ patch d at cs
+patch-again d at bs cs h r =
+    let more = length cs - length bs in
+    let front : length (take at d) ≡ at = length-take-le at d (omega arith) in
+    let whole : length (take at d ++ bs) ≡ at + length bs = simp (length-append, length-take) (omega arith) in
+    let sum : at + length cs ≡ length (take at d ++ bs) + more = omega (arith, whole) in
+    let t : take at (patch d at bs) ≡ take at d =
+    ap (take at) (append-assoc (take at d) bs (drop (at + length bs) d)) ∙ take-at (take at d) (bs ++ drop (at + length bs) d) at front in
+    let u : drop (at + length cs) (patch d at bs) ≡ drop (at + length cs) d =
+    rw (sum, drop-append-add) (rw (drop-drop, sym whole) refl) in
+    rw (t, u)
+
+-- what stands at a place, put there again
+pub patch-same : (d : List ℕ) (at k : ℕ) → at + k ≤ length d → patch d at (take k (drop at d)) ≡ d
+patch-same d at k h =
+    let n : length (take k (drop at d)) ≡ k = length-take-le k (drop at d) (omega (arith, length-drop at d)) in
+    let e : drop (at + length (take k (drop at d))) d ≡ drop k (drop at d) = ap (λ (m : ℕ). drop (at + m) d) n ∙ sym (drop-drop k at d) in
+    rw (e, append-assoc) (ap (λ (x : List ℕ). take at d ++ x) (take-append-drop k (drop at d)) ∙ take-append-drop at d)
+
+-- A copy that has come to byte i of s, and then the k bytes from byte j on, which may be there already in part: it has come to j + k.
+pub patch-over : (d : List ℕ) (at i j k : ℕ) (s : List ℕ) → j ≤ i → i ≤ j + k → j + k ≤ length s → at + length s ≤ length d
+    → patch (patch d at (take i s)) (at + j) (take k (drop j s)) ≡ patch d at (take (j + k) s)
+patch-over d at i j k s h g l r =
+    let a = take j s in
+    let b = take (i - j) (drop j s) in
+    let c = take k (drop j s) in
+    let la : length a ≡ j = length-take-le j s (omega arith) in
+    let lb : length b ≡ i - j = length-take-le (i - j) (drop j s) (omega (arith, length-drop j s)) in
+    let lc : length c ≡ k = length-take-le k (drop j s) (omega (arith, length-drop j s)) in
+    let sum : i ≡ j + (i - j) = omega arith in
+    let first : take i s ≡ a ++ b = ap (λ (x : ℕ). take x s) sum ∙ take-add j (i - j) s in
+    let put : patch (patch d at a) (at + j) b ≡ patch d at (take i s) =
+    ap (λ (x : ℕ). patch (patch d at a) (at + x) b) (sym la) ∙ patch-append d at a b (omega (arith, la, lb)) ∙ ap (patch d at) (sym first) in
+    let all : patch (patch d at a) (at + j) c ≡ patch d at (take (j + k) s) =
+    ap (λ (x : ℕ). patch (patch d at a) (at + x) c) (sym la) ∙ patch-append d at a c (omega (arith, la, lc)) ∙ ap (patch d at) (sym (take-add j k s)) in
+    ap (λ (x : List ℕ). patch x (at + j) c) (sym put)
+    ∙ patch-again (patch d at a) (at + j) b c (omega (arith, lb, lc)) (omega (arith, lc, length-patch d at a (omega (arith, la)))) ∙ all
+
+-- a part that is cut later
+pub cut-later : (l : List ℕ) (j k : ℕ) → j ≤ length l → take k (drop j l) ≡ drop j (take (j + k) l)
+cut-later l j k h = sym (ap (drop j) (take-add j k l) ∙ drop-at (take j l) (take k (drop j l)) j (length-take-le j l h))
+
+-- ... or bytes which are there already: nothing changes
+pub patch-within : (d : List ℕ) (at i j k : ℕ) (s : List ℕ) → j + k ≤ i → i ≤ length s → at + length s ≤ length d
+    → patch (patch d at (take i s)) (at + j) (take k (drop j s)) ≡ patch d at (take i s)
+patch-within d at i j k s h g r =
+    let p = take i s in
+    let e = patch d at p in
+    let behind = drop (at + length p) d in
+    let n : length p ≡ i = length-take-le i s g in
+    let front : length (take at d) ≡ at = length-take-le at d (omega arith) in
+    let whole : length (take at d ++ p) ≡ at + i = rw (length-append, front, n) refl in
+    let le : length e ≡ length d = length-patch d at p (omega (arith, n)) in
+    let same : take k (drop j p) ≡ take k (drop j s) =
+    cut-later p j k (omega (arith, n)) ∙ ap (drop j) (take-take (j + k) i s h) ∙ sym (cut-later s j k (omega arith)) in
+    let from : drop (at + j) (take at d ++ p) ≡ drop j p = ap (λ (x : ℕ). drop (x + j) (take at d ++ p)) (sym front) ∙ drop-append-add (take at d) p j in
+    let stands : take k (drop (at + j) e) ≡ take k (drop j p) =
+    ap (take k) (drop-append-le (at + j) (take at d ++ p) behind (omega (arith, whole)) ∙ ap (λ (x : List ℕ). x ++ behind) from)
+    ∙ take-append-le k (drop j p) behind (omega (arith, length-drop j p, n)) in
+    ap (patch e (at + j)) (sym (stands ∙ same)) ∙ patch-same e (at + j) k (omega (arith, le))
+
+-- ---- a copy in steps that may overlap: the first bytes of s stand at a place of d, at least so many
+
+module _ (d : List ℕ) (at : ℕ) (s : List ℕ) (r : at + length s ≤ length d) where
+  pub record Come (e : List ℕ) (least : ℕ) : Type 0 where
+    pub to : ℕ
+    pub holds : e ≡ patch d at (take to s)
+    pub far : least ≤ to
+    pub within : to ≤ length s
+
+  -- the bytes of s from j on that e has at their place
+  abbrev pub Step : (e e′ : List ℕ) → (j k : ℕ) → Type 0
+  Step e e′ j k = e′ ≡ patch e (at + j) (take k (drop j s))
+
+  pub copy-begun : {e : List ℕ} (k : ℕ) → Step d e 0 k → k ≤ length s → Come e k
+  copy-begun k p h = record { to = k; holds = p ∙ ap (λ (x : ℕ). patch d x (take k s)) (add-zero at); far = omega arith; within = h }
+
+  -- a step from within what has come: it has come as far as before, and as far as the step goes
+  pub copy-on : {e e′ : List ℕ} {least : ℕ} (j k : ℕ) → Come e least → Step e e′ j k → j ≤ least → j + k ≤ length s → Come e′ least × Come e′ (j + k)
+  copy-on {e} {e′} {least} j k c q h l = by (leb (j + k) (c .to)) refl
+    where
+      put : e′ ≡ patch (patch d at (take (c .to) s)) (at + j) (take k (drop j s))
+      put = q ∙ ap (λ (x : List ℕ). patch x (at + j) (take k (drop j s))) (c .holds)
+
+      Both : Type 0
+      Both = Come e′ least × Come e′ (j + k)
+
+      came : (to : ℕ) → e′ ≡ patch d at (take to s) → c .to ≤ to → j + k ≤ to → to ≤ length s → Both
+      came to p a b m =
+          (record { to = to; holds = p; far = omega (arith, c .far); within = m }, record { to = to; holds = p; far = b; within = m })
+
+      by : (t : Bool) → leb (j + k) (c .to) ≡ t → Both
+      by true t =
+          let u = leb-true (j + k) (c .to) t in
+          came (c .to) (put ∙ patch-within d at (c .to) j k s u (c .within) r) (omega arith) u (c .within)
+      by false t =
+          let u = leb-false (j + k) (c .to) t in
+          came (j + k) (put ∙ patch-over d at (c .to) j k s (omega (arith, c .far)) (omega arith) l r) (omega arith) (omega arith) l
+
+  pub copy-ended : {e : List ℕ} (least : ℕ) → Come e least → least ≡ length s → e ≡ patch d at s
+  copy-ended least c h =
+      let n : c .to ≡ length s = omega (arith, c .far, c .within) in
+      c .holds ∙ ap (patch d at) (ap (λ (x : ℕ). take x s) n ∙ take-length s)
+
+  -- words that may overlap, from the front on to the end
+  pub two-words : {e₁ e₂ : List ℕ} → Step d e₁ 0 8 → Step e₁ e₂ (length s - 8) 8 → 8 ≤ length s → length s ≤ 16 → e₂ ≡ patch d at s
+  two-words w₁ w₂ l h =
+      let c = copy-on (length s - 8) 8 (copy-begun 8 w₁ l) w₂ (omega arith) (omega arith) in
+      copy-ended (length s - 8 + 8) (c .1) (omega arith)
+
+  pub four-words : {e₁ e₂ e₃ e₄ : List ℕ} → Step d e₁ 0 8 → Step e₁ e₂ 8 8 → Step e₂ e₃ (length s - 16) 8 → Step e₃ e₄ (length s - 8) 8
+      → 16 < length s → length s ≤ 32 → e₄ ≡ patch d at s
+  four-words w₁ w₂ w₃ w₄ l h =
+      let c₂ = copy-on 8 8 (copy-begun 8 w₁ (omega arith)) w₂ (omega arith) (omega arith) in
+      let c₃ = copy-on (length s - 16) 8 (c₂ .1) w₃ (omega arith) (omega arith) in
+      let c₄ = copy-on (length s - 8) 8 (c₃ .1) w₄ (omega arith) (omega arith) in
+      copy-ended (length s - 8 + 8) (c₄ .1) (omega arith)
+
+  -- two words, a run from a place within them on that leaves less than 32 bytes, and the last four words
+  pub run-and-words : {e₁ e₂ e₃ e₄ e₅ e₆ e₇ : List ℕ} (lead end : ℕ) → Step d e₁ 0 8 → Step e₁ e₂ 8 8 → Step e₂ e₃ lead (end - lead)
+      → Step e₃ e₄ (length s - 32) 8 → Step e₄ e₅ (length s - 24) 8 → Step e₅ e₆ (length s - 16) 8 → Step e₆ e₇ (length s - 8) 8
+      → 32 < length s → lead ≤ 16 → lead ≤ end → end ≤ length s → length s < end + 32 → e₇ ≡ patch d at s
+  run-and-words lead end w₁ w₂ w₃ w₄ w₅ w₆ w₇ l h g m z =
+      let n = length s in
+      let c₂ = copy-on 8 8 (copy-begun 8 w₁ (omega arith)) w₂ (omega arith) (omega arith) in
+      let c₃ = copy-on lead (end - lead) (c₂ .1) w₃ (omega arith) (omega arith) in
+      let c₄ = copy-on (n - 32) 8 (c₃ .1) w₄ (omega arith) (omega arith) in
+      let c₅ = copy-on (n - 24) 8 (c₄ .1) w₅ (omega arith) (omega arith) in
+      let c₆ = copy-on (n - 16) 8 (c₅ .1) w₆ (omega arith) (omega arith) in
+      let c₇ = copy-on (n - 8) 8 (c₆ .1) w₇ (omega arith) (omega arith) in
+      copy-ended (n - 8 + 8) (c₇ .1) (omega arith)
 
 -- the two outcomes of a writer
 pub wrote-full : (bs d : List ℕ) (at : ℕ) → length d < at + length bs → Wrote bs d at (Refused NoRoom) d

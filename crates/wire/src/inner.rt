@@ -2,7 +2,7 @@
 // `has` is that test.
 ghost use mathlib.Core.Path.{_≡_};
 ghost use Prim.Native.Nat.{_+_, _*_, _≤_, _<_, _^_};
-ghost use lib.ListN.{length};
+ghost use lib.ListN.{length, take, drop};
 ghost use lib.Dec.{leb};
 ghost use Rattle.wire.specs.Le.{leAt, leBytes};
 ghost use Rattle.wire.specs.Room.{patch};
@@ -18,11 +18,33 @@ pub fn has(s: &[u8], at: usize, k: usize) -> bool
     if k <= s.len() - at { true } else { false }
 }
 
-// The number in the k bytes at a place. From the top byte down: for a fixed k that is one load.
+// The number in the four bytes at a place.
+pub fn half(s: &[u8], at: usize) -> u64
+    requires { ⌜ at + 4 ≤ length (now s) ⌝ }
+    ensures { λ r. ⌜ (r ≡ leAt (now (s .entry)) at 4) × (r < 0x1_0000_0000) ⌝ }
+{
+    let b = s[at + 1];
+    let c = s[at + 2];
+    let d = s[at + 3];
+    s[at] as u64 + b as u64 * 0x100 + c as u64 * 0x1_0000 + d as u64 * 0x100_0000
+}
+
+// The number in the eight bytes at a place. In two halves, each a sum: so the compiler sees that they are one load.
+pub fn eight(s: &[u8], at: usize) -> u64
+    requires { ⌜ at + 8 ≤ length (now s) ⌝ }
+    ensures { λ r. ⌜ (r ≡ leAt (now (s .entry)) at 8) × (r < 0x1_0000_0000_0000_0000) ⌝ }
+{
+    half(s, at) + half(s, at + 4) * 0x1_0000_0000
+}
+
+// The number in the k bytes at a place. From the top byte down: for a fixed k of a few bytes that is one load.
 pub fn le(s: &[u8], at: usize, k: usize) -> u64
     requires { ⌜ (k ≤ 8) × (at + k ≤ length (now s)) ⌝ }
     ensures { λ r. ⌜ (r ≡ leAt (now (s .entry)) at k) × (r < 2 ^ (8 * k)) ⌝ }
 {
+    if k == 8 {
+        return eight(s, at);
+    }
     let mut v: u64 = 0;
     let mut i = k;
     while 0 < i {
@@ -59,29 +81,55 @@ fn run(dst: &mut [u8], at: usize, src: &[u8])
     }
 }
 
-// How many of n bytes come before the first place from `at` on that is a multiple of 16, where that is worth it: not for a few bytes, and
-// not for so many that memory is slower than the stores.
-fn lead(at: usize, n: usize) -> usize
-    ensures { λ r. ⌜ r ≤ n ⌝ }
+// Eight bytes of src to their place, as one number: so the compiler makes them one load and one store.
+fn word(dst: &mut [u8], at: usize, src: &[u8], j: usize)
+    requires { ⌜ (j + 8 ≤ length (now src)) × (at + length (now src) ≤ length (now dst)) ⌝ }
+    ensures { λ _. ⌜ now (dst .exit) ≡ patch (now (dst .entry)) (at + j) (take 8 (drop j (now (src .entry)))) ⌝ }
 {
-    if n < 512 {
-        return 0;
-    }
-    if 0x10_0000 < n {
-        return 0;
-    }
-    (16 - at % 16) % 16
+    put_le(dst, at + j, 8, eight(src, j));
 }
 
-// The bytes of src from a place on. Behind a header of four bytes each wide store would straddle two lines of the cache, so a long
-// run begins with the few bytes before a multiple of 16: a buffer's front is most often at one.
+// More than 32 bytes. The first and the last go as words, and what lies between in wide steps from a multiple of 16 on: a store that
+// straddles two lines of the cache costs twice, behind a header of four bytes each would, and a buffer's front is most often at such
+// a multiple.
+fn wide(dst: &mut [u8], at: usize, src: &[u8])
+    requires { ⌜ (32 < length (now src)) × (at + length (now src) ≤ length (now dst)) ⌝ }
+    ensures { λ _. ⌜ now (dst .exit) ≡ patch (now (dst .entry)) at (now (src .entry)) ⌝ }
+{
+    let n = src.len();
+    let lead = 16 - at % 16;
+    let end = lead + (n - lead) / 32 * 32;
+    word(dst, at, src, 0);
+    word(dst, at, src, 8);
+    run(dst, at + lead, &src[lead..end]);
+    word(dst, at, src, n - 32);
+    word(dst, at, src, n - 24);
+    word(dst, at, src, n - 16);
+    word(dst, at, src, n - 8);
+}
+
+// The bytes of src from a place on, in words that may overlap: so but for a few no byte goes by itself.
 pub fn copy(dst: &mut [u8], at: usize, src: &[u8])
     requires { ⌜ at + length (now src) ≤ length (now dst) ⌝ }
     ensures { λ _. ⌜ now (dst .exit) ≡ patch (now (dst .entry)) at (now (src .entry)) ⌝ }
 {
-    let n = lead(at, src.len());
-    run(dst, at, &src[..n]);
-    run(dst, at + n, &src[n..]);
+    let n = src.len();
+    if n < 8 {
+        run(dst, at, src);
+        return;
+    }
+    if 32 < n {
+        wide(dst, at, src);
+        return;
+    }
+    word(dst, at, src, 0);
+    if n <= 16 {
+        word(dst, at, src, n - 8);
+        return;
+    }
+    word(dst, at, src, 8);
+    word(dst, at, src, n - 16);
+    word(dst, at, src, n - 8);
 }
 
 // A field of a date or time: k bytes at a place if there are so many bytes or more, else 0.

@@ -255,6 +255,12 @@ fn eat_within(s: &[u8], at: usize, n: u64) -> ReadStr
 pub fn checked_eat_lenenc_str(s: &[u8], at: usize) -> ReadStr
     ensures { λ r. ⌜ strSaid r ≡ strAt (now (s .entry)) at ⌝ }
 {
+    if at < s.len() {
+        let short = s[at];
+        if short < 251 {
+            return eat_within(s, at + 1, short as u64);
+        }
+    }
     match checked_eat_lenenc_int(s, at) {
         ReadInt::Done(n) => eat_within(s, n.next, n.value),
         ReadInt::Refused(r) => ReadStr::Refused(r),

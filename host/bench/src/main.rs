@@ -371,6 +371,22 @@ fn writing(n: usize, framed: bool, runs: usize) -> Row {
 
 // ---- Integers, names, rows ---------------------------------------------------------------------------------------------------
 
+/// One call for each integer, as from C: what the other sides have too.
+#[inline(never)]
+fn eat_int(buf: &mut ParseBuf) -> Option<u64> {
+    buf.checked_eat_lenenc_int()
+}
+
+#[inline(never)]
+fn put_int(out: &mut Vec<u8>, v: u64) {
+    out.put_lenenc_int(v);
+}
+
+/// How long the original takes where the compiler draws it into the caller's loop, which no C program has.
+fn inlined(ns: Option<f64>) -> String {
+    format!("the original drawn into a Rust loop {:.1}", ns.expect("it was run"))
+}
+
 fn integers(runs: usize, rows: &mut Vec<Row>) {
     // Mostly lengths of short strings, some of each longer form.
     let numbers: Vec<u64> = (0..4096u64)
@@ -408,6 +424,17 @@ fn integers(runs: usize, rows: &mut Vec<Row>) {
         for _ in 0..turns {
             let (mut buf, mut total) = (ParseBuf(black_box(&s)), 0u64);
             for _ in 0..count {
+                total = total.wrapping_add(eat_int(&mut buf).expect("whole"));
+            }
+            assert_eq!(black_box(total), sum);
+        }
+        per(start, count * turns)
+    }));
+    let drawn_in: Side = Some(Box::new(|| {
+        let start = Instant::now();
+        for _ in 0..turns {
+            let (mut buf, mut total) = (ParseBuf(black_box(&s)), 0u64);
+            for _ in 0..count {
                 total = total.wrapping_add(buf.checked_eat_lenenc_int().expect("whole"));
             }
             assert_eq!(black_box(total), sum);
@@ -426,9 +453,8 @@ fn integers(runs: usize, rows: &mut Vec<Row>) {
         }
         per(start, count * turns)
     }));
-    let [ours, rust, c] = measure(runs, &mut [ours, rust, c]);
-    let note = "the original is inlined".to_string();
-    rows.push(Row { name: "length-encoded integers read".into(), unit: "integer", ours, rust, c, note });
+    let [ours, rust, c, drawn_in] = measure(runs, &mut [ours, rust, c, drawn_in]);
+    rows.push(Row { name: "length-encoded integers read".into(), unit: "integer", ours, rust, c, note: inlined(drawn_in) });
 
     let mut mine = vec![1u8; 9 * count];
     #[cfg(archive)]
@@ -454,9 +480,21 @@ fn integers(runs: usize, rows: &mut Vec<Row>) {
         for _ in 0..turns {
             out.clear();
             for v in &numbers {
-                out.put_lenenc_int(*v);
+                put_int(&mut out, *v);
             }
             assert_eq!(black_box(&out).len(), s.len());
+        }
+        per(start, count * turns)
+    }));
+    let mut again: Vec<u8> = Vec::with_capacity(9 * count);
+    let drawn_in: Side = Some(Box::new(|| {
+        let start = Instant::now();
+        for _ in 0..turns {
+            again.clear();
+            for v in &numbers {
+                again.put_lenenc_int(*v);
+            }
+            assert_eq!(black_box(&again).len(), s.len());
         }
         per(start, count * turns)
     }));
@@ -472,9 +510,8 @@ fn integers(runs: usize, rows: &mut Vec<Row>) {
         }
         per(start, count * turns)
     }));
-    let [ours, rust, c] = measure(runs, &mut [ours, rust, c]);
-    let note = "the original is inlined".to_string();
-    rows.push(Row { name: "length-encoded integers written".into(), unit: "integer", ours, rust, c, note });
+    let [ours, rust, c, drawn_in] = measure(runs, &mut [ours, rust, c, drawn_in]);
+    rows.push(Row { name: "length-encoded integers written".into(), unit: "integer", ours, rust, c, note: inlined(drawn_in) });
 }
 
 fn quoting(path: &str, runs: usize, rows: &mut Vec<Row>) {

@@ -4,7 +4,7 @@ use Rattle.mishkeldur.proofs.state.load.Statement.{statement}
 use Rattle.mishkeldur.proofs.state.load.Tie as tie
 use Rattle.mishkeldur.proofs.state.load.Reads as reads
 use Rattle.mishkeldur.proofs.state.load.Lts as lts
-use Rattle.mishkeldur.proofs.state.eight.Reads as eight-reads
+use Rattle.wire.proofs.inner.eight.Reads as eight-reads
 
 shared-slice-read-first : tie.Need-shared-slice-read-first
 shared-slice-read-first c = search needs
@@ -49,11 +49,11 @@ returns : tie.Need-returns
 returns c =
     let a = c .before .before .before .before .before .before .before .before .before .before .before .before .before .before .args in
     loaded (a .state .now)
-    (c .before .before .before .before .eight .ensures)
-    (c .before .before .before .eight2 .ensures)
-    (c .before .before .eight3 .ensures)
-    (c .before .eight4 .ensures)
-    (c .eight5 .ensures)
+    (c .before .before .before .before .eight .ensures .0)
+    (c .before .before .before .eight2 .ensures .0)
+    (c .before .before .eight3 .ensures .0)
+    (c .before .eight4 .ensures .0)
+    (c .eight5 .ensures .0)
 
 pub load-spec : {M : Type 1} → statement M
 load-spec =

@@ -6,7 +6,7 @@ use Rattle.mishkeldur.proofs.state.put_count.Statement.{statement}
 use Rattle.mishkeldur.proofs.state.put_count.Tie as tie
 use Rattle.mishkeldur.proofs.state.put_count.Reads as reads
 use Rattle.mishkeldur.proofs.state.put_count.Lts as lts
-use Rattle.mishkeldur.proofs.state.eight.Reads as eight-reads
+use Rattle.wire.proofs.inner.eight.Reads as eight-reads
 use Rattle.wire.proofs.inner.put_le.Reads as put-le-reads
 
 eight-requires : tie.Need-eight-requires
@@ -28,7 +28,7 @@ returns-2 : tie.Need-returns-2
 returns-2 c =
     let a = c .before .before .before .before in
     stands (a .args .state .now) (a .args .at) (a .args .v) (a .pre) (λ i. omega (arith, c .before .before .before .slice-known .given i))
-    (sym (c .before .eight .ensures) ∙ c .if1 .left)
+    (sym (c .before .eight .ensures .0) ∙ c .if1 .left)
 
 pub put-count-spec : {M : Type 1} → statement M
 put-count-spec =

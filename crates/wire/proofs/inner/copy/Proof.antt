@@ -1,69 +1,88 @@
-use Rattle.wire.specs.RoomLaws.{patch-split, length-patch}
-use lib.Seq.{length-take-le}
-use lib.ListN.{length, take}
-use native.Mathlib.Omega.{arith}
-use mathlib.Core.Path.{_≡_, sym, ap, _∙_}
-use Prim.Native.Nat.{_+_, _≤_}
+use Rattle.wire.specs.RoomLaws.{two-words, four-words}
 use borrow.Author.Needs.{needs}
 use Rattle.wire.proofs.inner.copy.Statement.{statement}
 use Rattle.wire.proofs.inner.copy.Tie as tie
 use Rattle.wire.proofs.inner.copy.Reads as reads
 use Rattle.wire.proofs.inner.copy.Lts as lts
-use Rattle.wire.proofs.inner.lead.Reads as lead-reads
 use Rattle.wire.proofs.inner.run.Reads as run-reads
-
-lead-requires : tie.Need-lead-requires
-lead-requires c κs = search needs
-
-slice-aggregate-run : tie.Need-slice-aggregate-run
-slice-aggregate-run c =
-    let l = c .before .before in
-    sym (length-take-le (l .lead .result) (l .before .before .before .args .src .now) (l .lead .ensures))
+use Rattle.wire.proofs.inner.wide.Reads as wide-reads
+use Rattle.wire.proofs.inner.word.Reads as word-reads
 
 run-requires : tie.Need-run-requires
-run-requires c κs =
-    let l = c .before .before in
-    let a = l .before .before .before .args in
-    let e : length (take (l .lead .result) (a .src .now)) ≡ l .lead .result = length-take-le (l .lead .result) (a .src .now) (l .lead .ensures) in
-    omega (arith, e, l .lead .ensures, l .before .before .before .pre)
-
-add-run : tie.Need-add-run
-add-run c = search needs
-
-sub-run : tie.Need-sub-run
-sub-run c = search needs
-
-part-run-start : tie.Need-part-run-start
-part-run-start c = search needs
-
-part-run-end : tie.Need-part-run-end
-part-run-end c = search needs
-
-run-requires-2 : tie.Need-run-requires-2
-run-requires-2 c κs = search needs
+run-requires c κs = search needs
 
 same-length : tie.Need-same-length
 same-length c = search needs
 
 returns : tie.Need-returns
-returns c =
-    let two = c .before .before .run2 in
-    let one = c .before .before .before .before .before .before .before .run in
-    let l = c .before .before .before .before .before .before .before .before .before .before in
-    let a = l .before .before .before .args in
-    rw (two .ensures, one .ensures) (patch-split (a .dst .now) (a .at) (l .lead .result) (a .src .now) (l .lead .ensures) (l .before .before .before .pre))
+returns c = search needs
+
+wide-requires : tie.Need-wide-requires
+wide-requires c κs = search needs
+
+same-length-2 : tie.Need-same-length-2
+same-length-2 c = search needs
+
+returns-2 : tie.Need-returns-2
+returns-2 c = search needs
+
+word-requires : tie.Need-word-requires
+word-requires c κs = search needs
+
+word-requires-2 : tie.Need-word-requires-2
+word-requires-2 c κs = search needs
+
+same-length-3 : tie.Need-same-length-3
+same-length-3 c = search needs
+
+returns-3 : tie.Need-returns-3
+returns-3 c =
+    let f = c .before .before .before .before .before .before .before in
+    let a = f .before .before .before .before .before .before in
+    two-words (a .args .dst .now) (a .args .at) (a .args .src .now) (a .pre)
+    (f .word .ensures) (c .before .before .word2 .ensures) (f .before .before .before .if1 .left) (c .before .before .before .before .if3 .taken)
+
+word-requires-3 : tie.Need-word-requires-3
+word-requires-3 c κs = search needs
+
+sub-word : tie.Need-sub-word
+sub-word c = search needs
+
+word-requires-4 : tie.Need-word-requires-4
+word-requires-4 c κs = search needs
+
+word-requires-5 : tie.Need-word-requires-5
+word-requires-5 c κs = search needs
+
+same-length-4 : tie.Need-same-length-4
+same-length-4 c = search needs
+
+returns-4 : tie.Need-returns-4
+returns-4 c =
+    let h = c .before .before .before .before .before .before in
+    let g = h .before .before .before .before in
+    let f = g .before .before .before .before .before in
+    let a = f .before .before .before .before .before .before in
+    four-words (a .args .dst .now) (a .args .at) (a .args .src .now) (a .pre)
+    (f .word .ensures) (g .word3 .ensures) (h .word4 .ensures) (c .before .before .word5 .ensures) (g .before .before .if3 .left) (f .before .before .if2 .left)
 
 pub copy-spec : {M : Type 1} → statement M
 copy-spec =
     tie.close
     (tie.spec
-    lead-requires
-    slice-aggregate-run
     run-requires
-    add-run
-    sub-run
-    part-run-start
-    part-run-end
-    run-requires-2
     same-length
-    returns)
+    returns
+    wide-requires
+    same-length-2
+    returns-2
+    word-requires
+    word-requires-2
+    same-length-3
+    returns-3
+    word-requires-3
+    sub-word
+    word-requires-4
+    word-requires-5
+    same-length-4
+    returns-4)

@@ -1,11 +1,11 @@
-use Rattle.mishkeldur.proofs.StoreLaws.{two-halves}
+use Rattle.wire.specs.LeLaws.{two-halves}
 use native.Mathlib.Omega.{arith}
 use borrow.Author.Needs.{needs}
-use Rattle.mishkeldur.proofs.state.eight.Statement.{statement}
-use Rattle.mishkeldur.proofs.state.eight.Tie as tie
-use Rattle.mishkeldur.proofs.state.eight.Reads as reads
-use Rattle.mishkeldur.proofs.state.eight.Lts as lts
-use Rattle.mishkeldur.proofs.state.half.Reads as half-reads
+use Rattle.wire.proofs.inner.eight.Statement.{statement}
+use Rattle.wire.proofs.inner.eight.Tie as tie
+use Rattle.wire.proofs.inner.eight.Reads as reads
+use Rattle.wire.proofs.inner.eight.Lts as lts
+use Rattle.wire.proofs.inner.half.Reads as half-reads
 
 half-requires : tie.Need-half-requires
 half-requires c κs = search needs
@@ -25,7 +25,9 @@ add-result c = search needs
 returns : tie.Need-returns
 returns c =
     let a = c .before .before .before in
-    omega (arith, two-halves (a .args .s .now) (a .args .at) (a .pre), c .before .half .ensures .0, c .half2 .ensures .0)
+    let one = c .before .half .ensures in
+    let two = c .half2 .ensures in
+    (omega (arith, two-halves (a .args .s .now) (a .args .at) (a .pre), one .0, two .0), omega (arith, one .1, two .1))
 
 pub eight-spec : {M : Type 1} → statement M
 eight-spec =

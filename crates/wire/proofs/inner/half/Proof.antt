@@ -1,12 +1,12 @@
-use Rattle.mishkeldur.proofs.StoreLaws.{four-bytes}
+use Rattle.wire.specs.LeLaws.{four-bytes}
 use native.Mathlib.Omega.{arith}
 use mathlib.Core.Path.{sym}
 use Prim.Native.Nat.{_+_}
 use borrow.Author.Needs.{needs}
-use Rattle.mishkeldur.proofs.state.half.Statement.{statement}
-use Rattle.mishkeldur.proofs.state.half.Tie as tie
-use Rattle.mishkeldur.proofs.state.half.Reads as reads
-use Rattle.mishkeldur.proofs.state.half.Lts as lts
+use Rattle.wire.proofs.inner.half.Statement.{statement}
+use Rattle.wire.proofs.inner.half.Tie as tie
+use Rattle.wire.proofs.inner.half.Reads as reads
+use Rattle.wire.proofs.inner.half.Lts as lts
 
 add-b : tie.Need-add-b
 add-b c = search needs
