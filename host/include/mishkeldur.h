@@ -275,6 +275,34 @@ uint8_t mk_put_record(uint8_t *dst, size_t dst_len, size_t at, uint8_t kind, con
 uint8_t mk_put_variable(uint8_t *dst, size_t dst_len, size_t at, const uint8_t *name, size_t name_len, const uint8_t *value,
                         size_t value_len, size_t *next);
 
+/* ---- Damaged captures ------------------------------------------------------------------------------------------------------ */
+
+/*
+ * What can still be read of a capture of plain chunks after a line fault. It is read from its first byte, with the first chunk's number as
+ * it stands. At a bad place (MK_TOO_LARGE, MK_OUT_OF_SYNC, or MK_SHORT for a chunk that is cut) it goes on at the first later byte from
+ * which three whole chunks follow, none above the limit, with numbers that rise by one, 255 to 0. So a capture is good stretches, each
+ * of whole packets, and lost ones between them: they lie end to end from its first byte to its last, and none is empty.
+ * The limit is below MK_MAX_PAYLOAD, so that every chunk is a packet. Any part of a capture may be lent; places count from its front.
+ */
+enum {
+    MK_LOST = 0, /* offset, bytes, the refusal that began it: MK_TOO_LARGE, MK_OUT_OF_SYNC or MK_SHORT */
+    MK_GOOD = 1  /* offset, bytes, packets */
+};
+
+#define MK_STRETCH_NUMBERS 4u /* a stretch in the list: MK_GOOD or MK_LOST, then its three numbers */
+
+/* A capture of n bytes has no more stretches than this. */
+#define MK_MOST_STRETCHES(n) ((2 * (size_t)(n) + 22) / 13)
+
+/* How many stretches there are. MK_BAD_LIMIT: limit is 0, or MK_MAX_PAYLOAD or above. */
+uint8_t mk_stretches(size_t limit, const uint8_t *capture, size_t capture_len, size_t *count);
+
+/*
+ * The stretches in order to the front of `out`, MK_STRETCH_NUMBERS each; out_len counts numbers. *count is how many there are, and what
+ * lies behind them in the list stays. In this order: MK_BAD_LIMIT; MK_NO_ROOM: they don't all fit, and none is written.
+ */
+uint8_t mk_salvage(size_t limit, const uint8_t *capture, size_t capture_len, size_t *out, size_t out_len, size_t *count);
+
 #ifdef __cplusplus
 }
 #endif

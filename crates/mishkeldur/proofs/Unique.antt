@@ -8,6 +8,7 @@ use Rattle.refusal.specs.Said.{Said}
 use Rattle.frame.specs.Codec.{unreadOf}
 use Rattle.frame.specs.declared.PacketCodec.{PacketCodec}
 use Rattle.codec.specs.Connection.{stagingStays}
+use Rattle.salvage.specs.Salvage.{stretches, numbers, counted, salvaged, leftIn}
 use Rattle.mishkeldur.specs.Face.{status, holds, Puts}
 use Rattle.mishkeldur.specs.State.{short, codecOf, readBy, Opens, Changes, Reads, Writes, Looks}
 
@@ -82,3 +83,23 @@ writes-unique v w = (
   v .state ∙ sym (w .state),
   v .left ∙ sym (w .left),
 )
+
+-- ---- damaged captures
+
+-- `mk_stretches`
+pub stretches-unique : (limit old : ℕ) (s : List ℕ) {r q n₁ n₂ : ℕ}
+    → (r ≡ status (counted limit s)) × (n₁ ≡ holds (counted limit s) (λ n. n) old)
+    → (q ≡ status (counted limit s)) × (n₂ ≡ holds (counted limit s) (λ n. n) old)
+    → (r ≡ q) × (n₁ ≡ n₂)
+stretches-unique limit old s v w = (v .0 ∙ sym (w .0), v .1 ∙ sym (w .1))
+
+-- `mk_salvage`
+pub salvage-unique : (limit old : ℕ) (s d : List ℕ) {r q : ℕ} {d₁ d₂ : List ℕ} {n₁ n₂ : ℕ}
+    → (r ≡ status (salvaged limit s d))
+    × (d₁ ≡ leftIn (salvaged limit s d) (numbers (stretches limit s)) d)
+    × (n₁ ≡ holds (salvaged limit s d) (λ n. n) old)
+    → (q ≡ status (salvaged limit s d))
+    × (d₂ ≡ leftIn (salvaged limit s d) (numbers (stretches limit s)) d)
+    × (n₂ ≡ holds (salvaged limit s d) (λ n. n) old)
+    → (r ≡ q) × (d₁ ≡ d₂) × (n₁ ≡ n₂)
+salvage-unique limit old s d v w = (v .0 ∙ sym (w .0), v .1 ∙ sym (w .1), v .2 ∙ sym (w .2))

@@ -4,7 +4,7 @@ use mathlib.Core.Path.{_≡_, refl, sym, ap, _∙_}
 use mathlib.Core.Bool.{cond}
 use lib.Dec.{eqb}
 use Rattle.refusal.specs.declared.Refusal.{Refusal}
-use Rattle.refusal.specs.declared.Refusal.the-variants.{BadLimit, TooLarge, OutOfSync, BadFrameHeader, Packed, NoRoom, Closed, Short, BadLead, BadType, OutOfRange, BadRow, BadColumns}
+use Rattle.refusal.specs.declared.Refusal.the-variants.{BadLimit, TooLarge, OutOfSync, BadFrameHeader, Packed, NoRoom, Closed, Short, BadLead, BadType, OutOfRange, BadRow, BadColumns, BadPacket, BadLiteral, RowTooLong, TooManyRows}
 
 abbrev pub number : Refusal → ℕ
 number BadLimit = 1
@@ -20,6 +20,10 @@ number BadType = 10
 number OutOfRange = 11
 number BadRow = 12
 number BadColumns = 13
+number BadPacket = 14
+number BadLiteral = 15
+number RowTooLong = 16
+number TooManyRows = 17
 
 -- ---- its law: no two refusals have one number
 
@@ -36,7 +40,11 @@ named n =
     (cond (eqb n 9) BadLead
     (cond (eqb n 10) BadType
     (cond (eqb n 11) OutOfRange
-    (cond (eqb n 12) BadRow BadColumns)))))))))))
+    (cond (eqb n 12) BadRow
+    (cond (eqb n 13) BadColumns
+    (cond (eqb n 14) BadPacket
+    (cond (eqb n 15) BadLiteral
+    (cond (eqb n 16) RowTooLong TooManyRows)))))))))))))))
 
 named-number : (r : Refusal) → named (number r) ≡ r
 unfolding named
@@ -53,6 +61,10 @@ named-number BadType = refl
 named-number OutOfRange = refl
 named-number BadRow = refl
 named-number BadColumns = refl
+named-number BadPacket = refl
+named-number BadLiteral = refl
+named-number RowTooLong = refl
+named-number TooManyRows = refl
 
 pub number-same : (r q : Refusal) → number r ≡ number q → r ≡ q
 number-same r q e = sym (named-number r) ∙ ap named e ∙ named-number q

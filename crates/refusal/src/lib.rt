@@ -32,6 +32,14 @@ pub enum Refusal {
     BadRow,
     // 0 or more than 4,096 columns, or lists of unequal length
     BadColumns,
+    // a packet that is none of OK, ERR and EOF
+    BadPacket,
+    // bytes that are no quoted literal
+    BadLiteral,
+    // a row that fits into no statement
+    RowTooLong,
+    // more than 8,192 rows
+    TooManyRows,
 }
 
 // A refusal's number in the table.
@@ -52,5 +60,9 @@ pub fn number_of(r: Refusal) -> u8
         Refusal::OutOfRange => 11,
         Refusal::BadRow => 12,
         Refusal::BadColumns => 13,
+        Refusal::BadPacket => 14,
+        Refusal::BadLiteral => 15,
+        Refusal::RowTooLong => 16,
+        Refusal::TooManyRows => 17,
     }
 }

@@ -67,6 +67,8 @@ ENTRY(record, mk_read_record(row + 44, 4, 1, &a, &b, &k, &c))
 ENTRY(variable, mk_next_variable((const uint8_t *)"\1a\1b", 4, 0, &k, &a, &b, &c, &d, &e))
 ENTRY(put_record, mk_put_record(out, sizeof out, 0, 1, packet, 20, 0, &a))
 ENTRY(put_variable, mk_put_variable(out, sizeof out, 0, packet, 20, packet, 30, &a))
+ENTRY(stretches, mk_stretches(150, wire, wire_len, &a))
+ENTRY(salvage, mk_salvage(150, row, sizeof row, list, 16, &a))
 ENTRY(nothing, 0)
 
 static const struct {
@@ -80,6 +82,7 @@ static const struct {
     {"mk_read_text", text}, {"mk_read_date", date}, {"mk_put_int", put_int}, {"mk_put_uint", put_uint}, {"mk_put_float", put_float}, {"mk_put_double", put_double},
     {"mk_put_date", put_date}, {"mk_put_time", put_time}, {"mk_read_row", row_}, {"mk_read_params", params}, {"mk_null_bit", null_bit}, {"mk_null_count", null_count},
     {"mk_escaped", escaped}, {"mk_escaped_len", escaped_len}, {"mk_read_record", record}, {"mk_next_variable", variable}, {"mk_put_record", put_record}, {"mk_put_variable", put_variable},
+    {"mk_stretches", stretches}, {"mk_salvage", salvage},
 };
 
 static ucontext_t here, there;

@@ -160,6 +160,23 @@ static void quoting(input in)
     PROMISE(last(d, len)[0] == '\'' && last(d, len)[len - 1] == '\'');
 }
 
+/* A damaged capture: its stretches lie end to end, and are as many as was said; a list that is one number short gets none. */
+static void salvage(input in)
+{
+    size_t limit = 1 + take(&in), at = 0, asked = STALE, count = STALE, list[MK_STRETCH_NUMBERS * MK_MOST_STRETCHES(MOST)];
+    const uint8_t *s = lend_rest(&in);
+    PROMISE(mk_stretches(limit, s, in.len, &asked) == MK_OK && asked <= MK_MOST_STRETCHES(in.len));
+    size_t room = MK_STRETCH_NUMBERS * asked;
+    PROMISE(asked == 0 || (mk_salvage(limit, s, in.len, list, room - 1, &count) == MK_NO_ROOM && count == STALE));
+    PROMISE(mk_salvage(limit, s, in.len, list, room, &count) == MK_OK && count == asked);
+    for (size_t i = 0; i < room; i += MK_STRETCH_NUMBERS) {
+        PROMISE(list[i] <= MK_GOOD && list[i + 1] == at && list[i + 2] > 0);
+        at += list[i + 2];
+        if (list[i] == MK_LOST) note((uint8_t)list[i + 3]);
+    }
+    PROMISE(at == in.len);
+}
+
 int LLVMFuzzerTestOneInput(const uint8_t *data, size_t size);
 
 int LLVMFuzzerTestOneInput(const uint8_t *data, size_t size)
@@ -176,7 +193,7 @@ int LLVMFuzzerTestOneInput(const uint8_t *data, size_t size)
     case 0: case 1: case 2: connection(in, false); break;
     case 3: connection(in, true); break;
     case 4: round_trip(in); break;
-    case 5: quoting(in); break;
+    case 5: which & 8 ? salvage(in) : quoting(in); break;
     default: values(in, which >> 3); break;
     }
     return 0;
