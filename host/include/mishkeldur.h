@@ -10,7 +10,7 @@
  * - Every entry ends and answers, whatever bytes and numbers it is lent. It answers a status (below): MK_OK, a refusal, or
  *   MK_NEED_MORE from mk_read alone.
  * - What an entry gives it writes to the numbers that it is lent by pointer. ON A REFUSAL IT LEAVES THEM, AND EVERY BYTE
- *   LENT TO IT, AS THEY WERE, but for what mk_open and mk_read say of themselves.
+ *   LENT TO IT, AS THEY WERE, but for what mk_open, mk_read, mk_literal and mk_literal_len say of themselves.
  * - A pointer to a number must not be NULL.
  * - A "place" counts bytes from the front of the slice that it belongs to. Any place may be given; one beyond the end is refused
  *   wherever a byte is read or written there (a value of type 6 takes no bytes, and is NULL at any place).
@@ -53,6 +53,7 @@ enum {
     MK_OUT_OF_RANGE = 11,     /* a duration that no int64_t of microseconds holds at both signs */
     MK_BAD_ROW = 12,          /* a row's first byte is not 0 */
     MK_BAD_COLUMNS = 13,      /* 0 or more than MK_MAX_COLUMNS columns, or lists of unequal length */
+    MK_BAD_LITERAL = 15,      /* bytes that are no quoted literal */
     MK_NEED_MORE = 255        /* mk_read: no refusal; lend more bytes */
 };
 
@@ -302,6 +303,23 @@ uint8_t mk_stretches(size_t limit, const uint8_t *capture, size_t capture_len, s
  * lies behind them in the list stays. In this order: MK_BAD_LIMIT; MK_NO_ROOM: they don't all fit, and none is written.
  */
 uint8_t mk_salvage(size_t limit, const uint8_t *capture, size_t capture_len, size_t *out, size_t out_len, size_t *count);
+
+/* ---- Other programs' quotes ------------------------------------------------------------------------------------------------- */
+
+/*
+ * Whether the input is one single-quoted SQL literal, all of it, and how many bytes it means: *len. docs/LITERALS.md has the grammar; the
+ * mode is as for mk_escaped, whose literals are taken and mean their input. Byte by byte too: not for gbk, sjis and big5 in backslash mode.
+ * MK_BAD_LITERAL: *place is the place of the first byte that no literal could continue with, or input_len where the rest is missing.
+ * *len is written on MK_OK alone, and *place on MK_BAD_LITERAL alone.
+ */
+uint8_t mk_literal_len(const uint8_t *input, size_t input_len, uint8_t no_backslash_escape, size_t *len, size_t *place);
+
+/*
+ * The same, and the bytes meant go to the front of dst; what lies behind them stays. They are at most input_len - 2. In this order:
+ * MK_BAD_LITERAL; MK_NO_ROOM: dst is too short. Either changes no byte of dst.
+ */
+uint8_t mk_literal(uint8_t *dst, size_t dst_len, const uint8_t *input, size_t input_len, uint8_t no_backslash_escape, size_t *len,
+                   size_t *place);
 
 #ifdef __cplusplus
 }

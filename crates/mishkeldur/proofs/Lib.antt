@@ -1,5 +1,6 @@
 pub mod EntryLaws
 pub mod FaceLaws
+pub mod LiteralLaws
 pub mod StoreLaws
 pub mod Unique
 pub mod WholeLaws

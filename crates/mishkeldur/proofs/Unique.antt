@@ -5,11 +5,13 @@ use mathlib.Core.Bool.{true, false, cond}
 use mathlib.Core.List.{List}
 use Prim.Native.Nat.{ℕ}
 use Rattle.refusal.specs.Said.{Said}
+use Rattle.literal.specs.Checked.{Judged}
 use Rattle.frame.specs.Codec.{unreadOf}
 use Rattle.frame.specs.declared.PacketCodec.{PacketCodec}
 use Rattle.codec.specs.Connection.{stagingStays}
 use Rattle.salvage.specs.Salvage.{stretches, numbers, counted, salvaged, leftIn}
 use Rattle.mishkeldur.specs.Face.{status, holds, Puts}
+use Rattle.mishkeldur.specs.Literals.{Judges}
 use Rattle.mishkeldur.specs.State.{short, codecOf, readBy, Opens, Changes, Reads, Writes, Looks}
 
 -- ---- entries whose contract says outright what the status, a number or a list is: `mk_state_size`, `mk_lenenc_int_len`, the starts
@@ -31,6 +33,12 @@ number-unique v f old d e = d ∙ sym e
 pub puts-unique : {bs d : List ℕ} {at old r q : ℕ} {d₁ d₂ : List ℕ} {n₁ n₂ : ℕ} → Puts bs d at old r d₁ n₁ → Puts bs d at old q d₂ n₂
     → (r ≡ q) × (d₁ ≡ d₂) × (n₁ ≡ n₂)
 puts-unique v w = (v .status ∙ sym (w .status), v .left ∙ sym (w .left), v .next ∙ sym (w .next))
+
+-- ---- other programs' quotes: `mk_literal_len`, and `mk_literal` with `said-unique` for its buffer
+
+pub judges-unique : {j : Judged} {len place r q len₁ place₁ len₂ place₂ : ℕ} → Judges j len place r len₁ place₁ → Judges j len place q len₂ place₂
+    → (r ≡ q) × (len₁ ≡ len₂) × (place₁ ≡ place₂)
+judges-unique v w = (v .status ∙ sym (w .status), v .len ∙ sym (w .len), v .place ∙ sym (w .place))
 
 -- ---- the packet entries
 

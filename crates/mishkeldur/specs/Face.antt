@@ -8,7 +8,7 @@ use lib.Dec.{leb, eqb}
 use Rattle.refusal.specs.Said.{Said, gives, refused}
 use Rattle.wire.specs.Room.{patch}
 
--- "Status: 0 done, 1 to 13 the refusal"
+-- "Status: 0 done, else the number of the refusal"
 abbrev pub status : {A : Type 0} → Said A → ℕ
 status (gives a) = 0
 status (refused n) = n

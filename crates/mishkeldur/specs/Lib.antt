@@ -3,3 +3,4 @@ pub mod State
 pub mod StateLaws
 pub mod Whole
 pub mod Values
+pub mod Literals

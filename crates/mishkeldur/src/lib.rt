@@ -26,6 +26,7 @@ ghost use Rattle.mishkeldur.specs.Face.{status, holds, flag};
 ghost use Rattle.mishkeldur.specs.State.{stateSize, Opens, Changes, Looks, Reads, Writes};
 
 mod damage;
+mod literals;
 mod records;
 mod state;
 mod values;

@@ -1,12 +1,15 @@
 #!/bin/sh
 # The loader against a real MariaDB server: plain, with frames that an ordinary server packs (refusal 5), and with frames that it
-# stores. The server is Debian's, has its data in a temporary folder, listens on a unix socket and on loopback, and runs without
-# privileges. What the loader prints is held to what the server's own client prints. Everything is stopped and removed at the end.
+# stores; and the checker of literals against what the server reads. The server is Debian's, has its data in a temporary folder, listens
+# on a unix socket and on loopback, and runs without privileges. What the loader prints is held to what the server's own client prints.
+# Everything is stopped and removed at the end.
 set -eu
 cd "$(dirname "$0")/../.."
 loader=${LOADER:-build/asan/loader}
 [ -x "$loader" ] || loader=build/loader
 [ -x "$loader" ] || { echo "live: no loader: run make first"; exit 1; }
+literals=${LITERALS:-build/asan/tests/literals}
+[ -x "$literals" ] || { echo "live: no test of literals: run make asan first"; exit 1; }
 
 say() { echo "live: $*"; }
 have() { command -v "$1" > /dev/null 2>&1; }
@@ -144,6 +147,13 @@ must_refuse "no such table" "error 1146 (42S02)" "$socket" "no such table"
 must_refuse "a wrong password" "error 1045 (28000)" "$socket" "$table" --password-file "$work/wrong"
 must_refuse "a password of the old form" "before version 4.1" "$socket" "$table" --user ancient
 must_refuse "no TIME column" "no TIME column" "$socket" "$table" --offset id
+
+# Literals in both of the server's modes: the kept list is what this server says, and our checker is held to what it says.
+python3 data/literals_mariadb.py mariadb --no-defaults --socket="$socket" --user=root > "$work/literals"
+kept=../crates/literals/data/literals-mariadb.txt
+cmp "$kept" "$work/literals" || { say "literals: this server does not say what the kept list says"; diff "$kept" "$work/literals" | head; exit 1; }
+"$literals" "$work/literals" > "$work/said" || { say "literals: $(cat "$work/said")"; exit 1; }
+say "$(head -n 1 "$work/said")"
 stop_server
 
 say "the same server with zlib held at level 0"

@@ -1,0 +1,9 @@
+pub mod Grammar
+pub mod Checked
+pub mod CheckedLaws
+pub mod MemberLaws
+pub mod MeaningLaws
+pub mod RunLaws
+pub mod JudgeLaws
+pub mod WriteLaws
+pub mod AnswerLaws
