@@ -1,0 +1,9 @@
+pub mod Answer
+pub mod AnswerLaws
+pub mod Records
+pub mod RecordsLaws
+pub mod Written
+pub mod WrittenLaws
+pub mod RoundTrip
+pub mod RoundTripLaws
+pub mod HandedLaws
