@@ -54,6 +54,8 @@ enum {
     MK_BAD_ROW = 12,          /* a row's first byte is not 0 */
     MK_BAD_COLUMNS = 13,      /* 0 or more than MK_MAX_COLUMNS columns, or lists of unequal length */
     MK_BAD_LITERAL = 15,      /* bytes that are no quoted literal */
+    MK_ROW_TOO_LONG = 16,     /* a row that fits into no statement */
+    MK_TOO_MANY_ROWS = 17,    /* more than MK_MAX_ROWS rows */
     MK_NEED_MORE = 255        /* mk_read: no refusal; lend more bytes */
 };
 
@@ -68,6 +70,7 @@ const char *mk_version(void);
 #define MK_MAX_LIMIT 1073741824u   /* the largest limit: 1 GiB */
 #define MK_MAX_PAYLOAD 16777215u   /* the largest payload of a chunk or of a frame */
 #define MK_MAX_COLUMNS 4096u
+#define MK_MAX_ROWS 8192u          /* the most rows that mk_plan and mk_judge look at */
 #define MK_STATE_SIZE 128u         /* the bytes of a state; mk_state_size() answers the same */
 
 /* Staging for mk_read with frames on: with so many bytes, and a packet buffer of `limit` bytes, it never answers MK_NO_ROOM. */
@@ -320,6 +323,24 @@ uint8_t mk_literal_len(const uint8_t *input, size_t input_len, uint8_t no_backsl
  */
 uint8_t mk_literal(uint8_t *dst, size_t dst_len, const uint8_t *input, size_t input_len, uint8_t no_backslash_escape, size_t *len,
                    size_t *place);
+
+/* ---- Rows packed into statements --------------------------------------------------------------------------------------- */
+
+/*
+ * Where to cut a list of rows into statements, in order. A row is given by its length in bytes. A statement takes `overhead` bytes, its rows,
+ * and one separator byte between two of them, and may have `limit` bytes; no sum of these wraps. Group i is the rows from ends[i - 1] (0 for
+ * the first) up to, and without, ends[i]. *groups is how many there are, and no other way to cut has fewer; what lies behind them in `ends`
+ * stays. No rows give no groups. As many ends as rows are always enough.
+ * In this order: MK_TOO_MANY_ROWS; MK_ROW_TOO_LONG: some row and the overhead exceed the limit; MK_NO_ROOM: ends is shorter than the groups.
+ */
+uint8_t mk_plan(const uint32_t *rows, size_t rows_len, uint64_t overhead, uint64_t limit, uint64_t *ends, size_t ends_len, size_t *groups);
+
+/*
+ * Whether a proposal of this form, whoever made it, of any length and content, is right: *accepted is 1 exactly if every row is in one group, no
+ * group is empty and every group fits, and else 0; so it is 0 where a row fits into no statement. MK_TOO_MANY_ROWS.
+ */
+uint8_t mk_judge(const uint32_t *rows, size_t rows_len, uint64_t overhead, uint64_t limit, const uint64_t *proposal, size_t proposal_len,
+                 uint8_t *accepted);
 
 #ifdef __cplusplus
 }

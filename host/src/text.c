@@ -22,6 +22,8 @@ const char *mk_refusal_text(uint8_t status)
     case MK_BAD_ROW: return "12: bad row";
     case MK_BAD_COLUMNS: return "13: bad columns";
     case MK_BAD_LITERAL: return "15: bad literal";
+    case MK_ROW_TOO_LONG: return "16: row too long";
+    case MK_TOO_MANY_ROWS: return "17: too many rows";
     case MK_NEED_MORE: return "255: need more";
     default: return "unknown status";
     }

@@ -10,7 +10,8 @@ use Rattle.frame.specs.Codec.{unreadOf}
 use Rattle.frame.specs.declared.PacketCodec.{PacketCodec}
 use Rattle.codec.specs.Connection.{stagingStays}
 use Rattle.salvage.specs.Salvage.{stretches, numbers, counted, salvaged, leftIn}
-use Rattle.mishkeldur.specs.Face.{status, holds, Puts}
+use Rattle.pack.specs.Pack.{judged, plan, planned, leaves}
+use Rattle.mishkeldur.specs.Face.{status, holds, flagNo, Puts}
 use Rattle.mishkeldur.specs.Literals.{Judges}
 use Rattle.mishkeldur.specs.State.{short, codecOf, readBy, Opens, Changes, Reads, Writes, Looks}
 
@@ -111,3 +112,21 @@ pub salvage-unique : (limit old : ℕ) (s d : List ℕ) {r q : ℕ} {d₁ d₂ :
     × (n₂ ≡ holds (salvaged limit s d) (λ n. n) old)
     → (r ≡ q) × (d₁ ≡ d₂) × (n₁ ≡ n₂)
 salvage-unique limit old s d v w = (v .0 ∙ sym (w .0), v .1 ∙ sym (w .1), v .2 ∙ sym (w .2))
+
+-- ---- rows packed into statements
+
+-- `mk_plan`: the status, the list of ends and the number of groups
+pub plan-unique : (o limit : ℕ) (rows d : List ℕ) (old : ℕ) {r q : ℕ} {d₁ d₂ : List ℕ} {n₁ n₂ : ℕ}
+    → (r ≡ status (planned o limit rows d)) × (d₁ ≡ leaves (planned o limit rows d) (plan o limit rows) d)
+    × (n₁ ≡ holds (planned o limit rows d) (λ n. n) old)
+    → (q ≡ status (planned o limit rows d)) × (d₂ ≡ leaves (planned o limit rows d) (plan o limit rows) d)
+    × (n₂ ≡ holds (planned o limit rows d) (λ n. n) old)
+    → (r ≡ q) × (d₁ ≡ d₂) × (n₁ ≡ n₂)
+plan-unique o limit rows d old v w = (v .0 ∙ sym (w .0), v .1 ∙ sym (w .1), v .2 ∙ sym (w .2))
+
+-- `mk_judge`: the status and the word
+pub judge-unique : (o limit : ℕ) (rows proposal : List ℕ) (old : ℕ) {r q a₁ a₂ : ℕ}
+    → (r ≡ status (judged o limit rows proposal)) × (a₁ ≡ holds (judged o limit rows proposal) (λ b. flagNo b) old)
+    → (q ≡ status (judged o limit rows proposal)) × (a₂ ≡ holds (judged o limit rows proposal) (λ b. flagNo b) old)
+    → (r ≡ q) × (a₁ ≡ a₂)
+judge-unique o limit rows proposal old v w = (v .0 ∙ sym (w .0), v .1 ∙ sym (w .1))

@@ -27,6 +27,7 @@ ghost use Rattle.mishkeldur.specs.State.{stateSize, Opens, Changes, Look
 
 mod damage;
 mod literals;
+mod packing;
 mod records;
 mod state;
 mod values;

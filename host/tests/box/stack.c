@@ -21,6 +21,10 @@ static uint16_t y;
 static uint8_t k, x[4], types[10] = {1, 2, 3, 8, 4, 5, 11, 12, 253, 6}, signs[10];
 static const uint8_t row[] = {0, 0, 0, 1, 1, 2, 1, 2, 3, 4, 1, 2, 3, 4, 5, 6, 7, 8, 0, 0, 128, 63, 1, 2, 3, 4, 5, 6, 7, 8, 8, 1, 0, 0, 0, 0, 0, 1, 0, 4, 232, 7, 2, 29, 3, 'a', 'b', 'c'};
 
+static const uint32_t lengths[] = {3, 4, 3, 4};
+static const uint64_t proposal[] = {2, 4};
+static uint64_t ends[4];
+
 static size_t wire_len, wire_framed_len;
 
 static void fresh(uint8_t *st, int frames)
@@ -69,6 +73,8 @@ ENTRY(put_record, mk_put_record(out, sizeof out, 0, 1, packet, 20, 0, &a))
 ENTRY(put_variable, mk_put_variable(out, sizeof out, 0, packet, 20, packet, 30, &a))
 ENTRY(stretches, mk_stretches(150, wire, wire_len, &a))
 ENTRY(salvage, mk_salvage(150, row, sizeof row, list, 16, &a))
+ENTRY(plan, mk_plan(lengths, 4, 2, 10, ends, 4, &a))
+ENTRY(judge, mk_judge(lengths, 4, 2, 10, proposal, 2, &x[0]))
 ENTRY(nothing, 0)
 
 static const struct {
@@ -83,6 +89,7 @@ static const struct {
     {"mk_put_date", put_date}, {"mk_put_time", put_time}, {"mk_read_row", row_}, {"mk_read_params", params}, {"mk_null_bit", null_bit}, {"mk_null_count", null_count},
     {"mk_escaped", escaped}, {"mk_escaped_len", escaped_len}, {"mk_read_record", record}, {"mk_next_variable", variable}, {"mk_put_record", put_record}, {"mk_put_variable", put_variable},
     {"mk_stretches", stretches}, {"mk_salvage", salvage},
+    {"mk_plan", plan}, {"mk_judge", judge},
 };
 
 static ucontext_t here, there;

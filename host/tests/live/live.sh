@@ -1,8 +1,8 @@
 #!/bin/sh
 # The loader against a real MariaDB server: plain, with frames that an ordinary server packs (refusal 5), and with frames that it
-# stores; and the checker of literals against what the server reads. The server is Debian's, has its data in a temporary folder, listens
-# on a unix socket and on loopback, and runs without privileges. What the loader prints is held to what the server's own client prints.
-# Everything is stopped and removed at the end.
+# stores; the checker of literals against what the server reads; and the station names packed into statements, which the server takes
+# within the box's limit. The server is Debian's, has its data in a temporary folder, listens on a unix socket and on loopback, and runs
+# without privileges. What the loader prints is held to what the server's own client prints. Everything is stopped and removed at the end.
 set -eu
 cd "$(dirname "$0")/../.."
 loader=${LOADER:-build/asan/loader}
@@ -154,6 +154,33 @@ kept=../crates/literals/data/literals-mariadb.txt
 cmp "$kept" "$work/literals" || { say "literals: this server does not say what the kept list says"; diff "$kept" "$work/literals" | head; exit 1; }
 "$literals" "$work/literals" > "$work/said" || { say "literals: $(cat "$work/said")"; exit 1; }
 say "$(head -n 1 "$work/said")"
+
+# The station names in few statements: tests/pack.c writes them, and a server that takes packets of the box's 61,440 bytes and no more is fed
+# with them. Then the names are all there, and in their order.
+pack=${PACK:-build/asan/tests/pack}
+names=../data/station-names.txt
+[ -x "$pack" ] || { say "no $pack: run make live"; exit 1; }
+"$pack" "$work/statements.sql" > "$work/said" || { say "packing: $(cat "$work/said")"; exit 1; }
+utf8() { client --default-character-set=utf8mb4 "$@"; }
+usual=$(client -e 'SELECT @@GLOBAL.max_allowed_packet')
+utf8 depot << 'SQL'
+CREATE TABLE stations (id INT UNSIGNED AUTO_INCREMENT PRIMARY KEY, name VARCHAR(255) NOT NULL) ENGINE = InnoDB
+    CHARACTER SET utf8mb4 COLLATE utf8mb4_bin;
+SET GLOBAL max_allowed_packet = 61440;
+SQL
+utf8 depot < "$work/statements.sql" || { say "packed statements: the server refuses one"; exit 1; }
+if { printf "SELECT LENGTH('"; head -c 61440 /dev/zero | tr '\000' x; printf "');\n"; } | client > /dev/null 2> "$work/said"; then
+    say "packed statements: the server takes a longer one"
+    exit 1
+fi
+grep -Eq 'max_allowed_packet|ERROR 20(06|13)' "$work/said" || { say "packed statements: a longer one: $(cat "$work/said")"; exit 1; }
+client -e "SET GLOBAL max_allowed_packet = $usual"
+count=$(utf8 depot -e 'SELECT COUNT(*) FROM stations')
+[ "$count" = "$(wc -l < "$names")" ] || { say "packed statements: $count names of $(wc -l < "$names")"; exit 1; }
+sum=$(utf8 depot -e "SET SESSION group_concat_max_len = 1048576;
+    SELECT SHA2(GROUP_CONCAT(CONCAT(name, '\n') ORDER BY id SEPARATOR ''), 256) FROM stations")
+[ "$sum" = "$(sha256sum < "$names" | cut -d ' ' -f 1)" ] || { say "packed statements: the names differ: $sum"; exit 1; }
+say "packed statements: $(wc -l < "$work/statements.sql") for $count names, each within 61,440 bytes, and the server has the names in order"
 stop_server
 
 say "the same server with zlib held at level 0"

@@ -1,0 +1,4 @@
+pub mod Pack
+pub mod PackLaws
+pub mod PlanLaws
+pub mod WalkLaws
