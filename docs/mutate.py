@@ -4,9 +4,9 @@
   docs/mutate.py [--seed N] [--each N] [--out FILE] [ROOM ...]
 
 An edit changes one token of a function's body and keeps the code's shape: a comparison, an operator, a constant, true and false. Each
-is written as a must-fail edit into a copy of the repository, and `rt must-fail` tries it there. An edit that survives is either one that
-changes nothing a caller can see, or a hole in a contract: the list says which, by hand. By hand, not in the gate: an edit costs a whole
-check of its room.
+is written as a must-fail edit into a copy of the repository, and `rt must-fail` tries them there. An edit that survives is either one
+that changes nothing a caller can see, or a hole in a contract; docs/PERFORMANCE.md says which. By hand, not in the gate: an edit costs a
+whole check of its room.
 """
 import argparse, os, random, re, shutil, subprocess, sys, tempfile
 
@@ -79,41 +79,48 @@ def sample(room, rng, most):
     return found[:most], len(found)
 
 
+WORD = re.compile(r'must-fail (\w+)/(edit_\d+): (refused|NOT REFUSED|BAD EDIT)')
+
+
+def judged(copy, room, chosen):
+    """What `rt must-fail` says of each edit, in one run: refused, NOT REFUSED, or BAD EDIT where the compiler took it for no program."""
+    folder = f'{copy}/crates/{room}/must-fail'
+    os.makedirs(folder)
+    for k, (path, old, new) in enumerate(chosen):
+        with open(f'{folder}/edit_{k}.edit', 'w') as f:
+            f.write(f'file: {path}\nold: {old}\nnew: {new}\n')
+    run = subprocess.run(['rt', 'must-fail', room], cwd=copy, capture_output=True, text=True)
+    shutil.rmtree(folder)
+    words = {m[1]: m[2] for m in WORD.findall(run.stdout + run.stderr) if m[0] == room}
+    return [words.get(f'edit_{k}', 'no word') for k in range(len(chosen))]
+
+
 def main():
-    args = argparse.ArgumentParser()
+    args = argparse.ArgumentParser(description=__doc__, formatter_class=argparse.RawDescriptionHelpFormatter)
     args.add_argument('--seed', type=int, default=1)
     args.add_argument('--each', type=int, default=8)
-    args.add_argument('--out')
+    args.add_argument('--out', help='the report, as a file')
     args.add_argument('room', nargs='*')
     args = args.parse_args()
-    rng = random.Random(args.seed)
     out = open(args.out, 'w') if args.out else sys.stdout
     copy = tempfile.mkdtemp()
     try:
-        for name in ('crates', 'crates.txt'):
-            src = f'{ROOT}/{name}'
-            (shutil.copytree if os.path.isdir(src) else shutil.copy)(src, f'{copy}/{name}')
+        shutil.copytree(f'{ROOT}/crates', f'{copy}/crates', ignore=shutil.ignore_patterns('must-fail'))
+        shutil.copy(f'{ROOT}/crates.txt', copy)
+        # What is proved already need not be proved again for the copy.
         if os.path.isdir(f'{ROOT}/target'):
-            shutil.copytree(f'{ROOT}/target', f'{copy}/target', copy_function=os.link)
+            shutil.copytree(f'{ROOT}/target', f'{copy}/target', symlinks=True)
         for room in args.room or rooms():
+            rng = random.Random(f'{args.seed} {room}')
             chosen, of = sample(room, rng, args.each)
-            folder = f'{copy}/crates/{room}/must-fail'
-            shutil.rmtree(folder, ignore_errors=True)
-            survivors = []
-            for i, (path, old, new) in enumerate(chosen):
-                os.makedirs(folder, exist_ok=True)
-                edit = f'{folder}/edit_{i}.edit'
-                with open(edit, 'w') as f:
-                    f.write(f'file: {path}\nold: {old}\nnew: {new}\n')
-                run = subprocess.run(['rt', 'must-fail', room], cwd=copy, capture_output=True, text=True)
-                if run.returncode != 0:
-                    survivors.append((path, old.strip(), new.strip(), run.stdout.strip().split('\n')[-1]))
-                os.remove(edit)
-                print(f'mutate: {room} {i + 1}/{len(chosen)}: {"refused" if run.returncode == 0 else "SURVIVES"}', file=sys.stderr)
-            shutil.rmtree(folder, ignore_errors=True)
-            print(f'{room}: {len(chosen)} of {of} tried, {len(chosen) - len(survivors)} refused, {len(survivors)} not', file=out, flush=True)
-            for path, old, new, why in survivors:
-                print(f'    {path}: `{old}` -> `{new}` ({why})', file=out, flush=True)
+            if not chosen:
+                continue
+            words = judged(copy, room, chosen)
+            count = {w: words.count(w) for w in sorted(set(words))}
+            print(f'{room}: {len(chosen)} of {of}: ' + ', '.join(f'{n} {w}' for w, n in count.items()), file=out, flush=True)
+            for (path, old, new), word in zip(chosen, words):
+                if word != 'refused':
+                    print(f'    {word}: {path}: `{old.strip()}` -> `{new.strip()}`', file=out, flush=True)
     finally:
         shutil.rmtree(copy, ignore_errors=True)
 
