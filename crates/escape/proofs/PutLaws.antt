@@ -1,21 +1,15 @@
--- What the writing loop leans on: one byte or two put at a place, and the rest of the quoted form from a byte on.
+-- What the writing loop leans on: the rest of the quoted form from a byte on.
 use Prim.Native.Nat.{ℕ, _+_, _≤_, _<_}
 use mathlib.Core.Path.{_≡_, refl, sym, ap, _∙_}
 use mathlib.Core.Bool.{Bool}
 use mathlib.Core.List.{List, [], _∷_, _++_, append-assoc}
 use native.Mathlib.Omega.{arith}
 use native.Mathlib.Numerals.{add-one}
-use lib.ListN.{length, drop, getD, set, length-set, length-append}
-use lib.Seq.{drop-cons, drop-length, set-split, append-snoc}
+use lib.ListN.{length, drop, getD, length-append}
+use lib.Seq.{drop-cons, drop-length}
 use Rattle.wire.specs.Room.{patch}
-use Rattle.wire.specs.RoomLaws.{patch-cons, patch-append}
+use Rattle.wire.specs.RoomLaws.{patch-append}
 use Rattle.escape.specs.Quote.{quote, becomes, body, quoted}
-
-pub patch-one : (d : List ℕ) (at b : ℕ) → at < length d → set d at b ≡ patch d at (b ∷ [])
-patch-one d at b h = set-split d at b h ∙ rw (append-snoc, add-one)
-
-pub patch-two : (d : List ℕ) (at a b : ℕ) → at + 2 ≤ length d → set (set d at a) (at + 1) b ≡ patch d at (a ∷ b ∷ [])
-patch-two d at a b h = patch-one (set d at a) (at + 1) b (rw length-set (omega arith)) ∙ patch-cons d at a (b ∷ []) (omega arith)
 
 -- what is still to be written from the i-th byte on
 abbrev pub rest : Bool → List ℕ → ℕ → List ℕ

@@ -42,5 +42,6 @@ pub corner : (sent₁ .buf ≡ 4 ∷ 0 ∷ 0 ∷ 0 ∷ 0 ∷ 0 ∷ 0 ∷ 4 ∷ 0
     × (read₁ .next .number ≡ 1)
     × (sent₁ .next .number ≡ 2)
     × (read₂ .answer ≡ refused 3)
-unfolding writeFramed readFramed running laps lapAt drained frameAt frameFrom headed bodyAt took unreadOf pieceOf frame ceil split numberedFrames framesOf frames framesNeed framesAfter chunks chunksOf pieces cut numbered chunk next needed leOf leBytes flatten P.read P.opened P.turns P.turnOf P.turnFrom P.headed P.chunkAt P.took
+unfolding writeFramed readFramed running laps lapAt drained frameAt frameFrom headed bodyAt took unreadOf pieceOf frame ceil split numberedFrames framesOf frames framesNeed framesAfter
+    chunks chunksOf pieces cut numbered chunk next needed leOf leBytes flatten P.read P.opened P.turns P.turnOf P.turnFrom P.headed P.chunkAt P.took
 corner = (refl, refl, refl, refl, refl, refl)

@@ -2,16 +2,15 @@
 use Prim.Native.Nat.{ℕ, _+_, _-_, _≤_, _<_}
 use native.Mathlib.Omega.{arith}
 use native.Mathlib.Nat.{add-zero}
-use native.Mathlib.Numerals.{add-one}
 use mathlib.Core.Path.{_≡_, refl, sym, ap, _∙_}
 use mathlib.Core.Bool.{Bool, true, false, cond}
 use mathlib.Core.List.{List, [], _∷_, _++_, append-nil}
-use lib.ListN.{length, take, drop, getD, set, length-append, length-set, drop-of-length-le, take-append-drop}
-use lib.Seq.{drop-drop, set-split, append-snoc}
+use lib.ListN.{length, take, drop, getD, length-append, drop-of-length-le, take-append-drop}
+use lib.Seq.{drop-drop}
 use lib.Dec.{eqb, ltb}
 use borrow.Author.Tests.{ne-eqb, ltb-true, ltb-false}
 use Rattle.wire.specs.Room.{patch}
-use Rattle.wire.specs.RoomLaws.{patch-append, patch-cons}
+use Rattle.wire.specs.RoomLaws.{patch-append}
 use Rattle.escape.specs.Quote.{quote, backslash}
 use Rattle.escape.specs.QuoteLaws.{firstOf}
 use Rattle.literal.specs.Grammar.{escapeMeans}
@@ -129,10 +128,3 @@ all-sound m (b ∷ s) bs e = whether b quote opened (λ n. absurd (means-not-bad
 
 pub patch-none : (d : List ℕ) (at : ℕ) → patch d at [] ≡ d
 patch-none d at = rw (add-zero, append-nil) (take-append-drop at d)
-
--- one byte at a place, and two
-pub patch-one : (d : List ℕ) (at b : ℕ) → at < length d → set d at b ≡ patch d at (b ∷ [])
-patch-one d at b h = set-split d at b h ∙ rw (append-snoc, add-one)
-
-pub patch-two : (d : List ℕ) (at a b : ℕ) → at + 2 ≤ length d → set (set d at a) (at + 1) b ≡ patch d at (a ∷ b ∷ [])
-patch-two d at a b h = patch-one (set d at a) (at + 1) b (rw length-set (omega arith)) ∙ patch-cons d at a (b ∷ []) (omega arith)

@@ -6,7 +6,7 @@ use native.Mathlib.Numerals.{add-one}
 use native.Mathlib.Nat.{add-assoc, add-zero}
 use native.Mathlib.Omega.{arith}
 use lib.ListN.{length, take, drop, set, length-set, length-append, length-take, length-drop, take-append-drop}
-use lib.Seq.{paste, take-length, take-add, take-take, take-append-le, drop-append-le, sets, sets-eq, take-at, drop-at, drop-append-add, drop-drop, length-take-le}
+use lib.Seq.{paste, take-length, take-add, take-take, take-append-le, drop-append-le, sets, sets-eq, take-at, drop-at, drop-append-add, drop-drop, length-take-le, set-split, append-snoc}
 use borrow.Author.Tests.{le-leb, lt-leb, leb-true, leb-false}
 use mathlib.Core.Bool.{Bool, true, false}
 use lib.Dec.{leb}
@@ -31,6 +31,13 @@ pub patch-cons : (d : List ℕ) (at b : ℕ) (bs : List ℕ) → at + suc (lengt
 patch-cons d at b bs h =
     rw add-one
     (sym (sets-eq bs (set d at b) (suc at) (rw length-set (omega arith))) ∙ sets-eq (b ∷ bs) d at h)
+
+-- one byte put at a place, and two
+pub patch-one : (d : List ℕ) (at b : ℕ) → at < length d → set d at b ≡ patch d at (b ∷ [])
+patch-one d at b h = set-split d at b h ∙ rw (append-snoc, add-one)
+
+pub patch-two : (d : List ℕ) (at a b : ℕ) → at + 2 ≤ length d → set (set d at a) (at + 1) b ≡ patch d at (a ∷ b ∷ [])
+patch-two d at a b h = patch-one (set d at a) (at + 1) b (rw length-set (omega arith)) ∙ patch-cons d at a (b ∷ []) (omega arith)
 
 -- some bytes, and others behind them
 pub patch-append : (d : List ℕ) (at : ℕ) (bs cs : List ℕ) → at + (length bs + length cs) ≤ length d

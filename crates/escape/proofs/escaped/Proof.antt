@@ -26,7 +26,9 @@ returns c =
     let p = c .before .before .before .before in
     let a = p .before .before .before .before .before .args in
     let w = c .before .before .put-quoted in
-    wrote-next (quoted (a .no-backslash-escape) (a .input .now)) (a .dst .now) (a .at) (w .result) (w .last .0) (has-yes (a .at + length (quoted (a .no-backslash-escape) (a .input .now))) (length (a .dst .now)) (p .before .fits2 .ensures) (p .if1 .taken)) (w .ensures .0) (w .ensures .1)
+    let bytes = quoted (a .no-backslash-escape) (a .input .now) in
+    let room = has-yes (a .at + length bytes) (length (a .dst .now)) (p .before .fits2 .ensures) (p .if1 .taken) in
+    wrote-next bytes (a .dst .now) (a .at) (w .result) (w .last .0) room (w .ensures .0) (w .ensures .1)
 
 same-length-2 : tie.Need-same-length-2
 same-length-2 c = search needs

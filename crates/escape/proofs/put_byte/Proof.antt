@@ -1,4 +1,4 @@
-use Rattle.escape.proofs.PutLaws.{patch-one, patch-two}
+use Rattle.wire.specs.RoomLaws.{patch-one, patch-two}
 use Rattle.escape.specs.QuoteLaws.{becomes-itself, becomes-two}
 use Rattle.escape.specs.Quote.{becomes}
 use lib.ListN.{length, length-set}

@@ -1,5 +1,5 @@
-use Rattle.escape.proofs.PutLaws.{patch-one, rest, rest-more, rest-none, rest-all, rest-turn}
-use Rattle.wire.specs.RoomLaws.{patch-cons}
+use Rattle.escape.proofs.PutLaws.{rest, rest-more, rest-none, rest-all, rest-turn}
+use Rattle.wire.specs.RoomLaws.{patch-cons, patch-one}
 use Rattle.wire.specs.Room.{patch}
 use lib.ListN.{length, getD, length-set, length-append}
 use mathlib.Core.List.{[], _∷_}

@@ -56,18 +56,23 @@ returns-3 c =
     let t = c .before .before .before .before .before .before .before .round in
     let l = c .before .before .before .before .before .before .before .before .before .before .before .loop in
     let a = c .before .before .before .before .before .before .before .before .before .before .before .before .before .before .before .before .before .before .args in
-    let o = framed-open largest (a .codec) (a .src .now) (a .staging .now) (a .dst .now) (c .before .before .before .before .before .before .before .before .before .before .before .before .before .before .if1 .left) (omega (arith, c .before .before .before .before .before .before .before .before .before .before .before .before .if2 .left)) in (
+    let z = c .before .before .before .before .before .before .before .before .before .before .before .before in
+    let o = framed-open largest (a .codec) (a .src .now) (a .staging .now) (a .dst .now) (z .before .before .if1 .left) (omega (arith, z .if2 .left)) in (
       head-last (a .staging .now) (a .dst .now) (a .codec) (a .src .now) (l .staging) (l .dst) (l .at) (l .st) (l .inv) (t .result) (t .last .0) (t .last .1 .0) (t .ensures) (c .if3 .taken) ∙ sym o,
-      λ k. never (a .codec .closed) (c .before .before .before .before .before .before .before .before .before .before .before .before .before .before .if1 .left) k,
-      λ h. absurd (omega (arith, h, c .before .before .before .before .before .before .before .before .before .before .before .before .if2 .left)),
+      λ k. never (a .codec .closed) (z .before .before .if1 .left) k,
+      λ h. absurd (omega (arith, h, z .if2 .left)),
     )
 
 add-at : tie.Need-add-at Inv-loop μ-loop
 add-at c =
     let t = c .before .before .before .before .before .before .before .before .round in
     let l = c .before .before .before .before .before .before .before .before .before .before .before .before .loop in
-    let a = c .before .before .before .before .before .before .before .before .before .before .before .before .before .before .before .before .before .before .before .args in
-    omega (arith, used-in (a .staging .now) (a .dst .now) (a .codec) (a .src .now) (l .staging) (l .dst) (l .at) (l .st) (l .inv) (t .result) (t .last .0) (t .last .1 .0) (t .ensures), c .before .before .before .before .before .before .before .before .before .before .before .before .before .before .before .before .before .before .before .good)
+    let start = c .before .before .before .before .before .before .before .before .before .before .before .before .before .before .before .before .before .before .before in
+    let a = start .args in
+    let u =
+    used-in (a .staging .now) (a .dst .now) (a .codec) (a .src .now) (l .staging) (l .dst) (l .at) (l .st) (l .inv)
+    (t .result) (t .last .0) (t .last .1 .0) (t .ensures) in
+    omega (arith, u, start .good)
 
 loop-less : tie.Need-loop-less Inv-loop μ-loop
 loop-less c =

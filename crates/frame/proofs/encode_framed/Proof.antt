@@ -62,7 +62,8 @@ returns-4 c =
     let a = c .before .before .before .before .before .before .before .before .before .before .args in
     let t = total-is (a .codec .limit) (length (a .packet .now)) _ _ _ (c .before .before .before .before .chunks-len .ensures) (c .before .before .before .piece-len .ensures) (c .before .before .pieces .ensures) in
     let h : length (a .dst .now) < total largest (a .codec .limit) (length (a .packet .now)) = rw (← t) (omega arith) in
-    rw (write-no-room largest (a .codec) (a .packet .now) (a .dst .now) (c .before .before .before .before .before .before .before .if1 .left) (c .before .before .before .before .before .before .if2 .left) (c .before .before .before .before .before .if3 .left) h, c .unsent4 .ensures)
+    let z = c .before .before .before .before .before in
+    rw (write-no-room largest (a .codec) (a .packet .now) (a .dst .now) (z .before .before .if1 .left) (z .before .if2 .left) (z .if3 .left) h, c .unsent4 .ensures)
 
 sub-if5 : tie.Need-sub-if5
 sub-if5 c = search needs
@@ -75,7 +76,8 @@ returns-5 c =
     let a = c .before .before .before .before .before .before .before .before .before .before .before .args in
     let t = total-is (a .codec .limit) (length (a .packet .now)) _ _ _ (c .before .before .before .before .before .chunks-len .ensures) (c .before .before .before .before .piece-len .ensures) (c .before .before .before .pieces .ensures) in
     let h : length (a .dst .now) < total largest (a .codec .limit) (length (a .packet .now)) = rw (← t) (omega arith) in
-    rw (write-no-room largest (a .codec) (a .packet .now) (a .dst .now) (c .before .before .before .before .before .before .before .before .if1 .left) (c .before .before .before .before .before .before .before .if2 .left) (c .before .before .before .before .before .before .if3 .left) h, c .unsent5 .ensures)
+    let z = c .before .before .before .before .before .before in
+    rw (write-no-room largest (a .codec) (a .packet .now) (a .dst .now) (z .before .before .if1 .left) (z .before .if2 .left) (z .if3 .left) h, c .unsent5 .ensures)
 
 put-packet-requires : tie.Need-put-packet-requires
 put-packet-requires c κs =
@@ -104,7 +106,9 @@ returns-6 c =
     let t = total-is (a .codec .limit) (length (a .packet .now)) _ _ _ nn pp ce in
     let q = c .before .before .before .put-packet in
     let h : total largest (a .codec .limit) (length (a .packet .now)) ≤ length (a .dst .now) = rw (← t) (omega arith) in
-    rw (write-whole largest (a .codec) (a .packet .now) (a .dst .now) (c .before .before .before .before .before .before .before .before .before .before .before .before .if1 .left) (c .before .before .before .before .before .before .before .before .before .before .before .if2 .left) (c .before .before .before .before .before .before .before .before .before .before .if3 .left) h, t, c .renumber .ensures, q .ensures .0, q .ensures .1, pp, nn)
+    let z = c .before .before .before .before .before .before .before .before .before .before in
+    let w = write-whole largest (a .codec) (a .packet .now) (a .dst .now) (z .before .before .if1 .left) (z .before .if2 .left) (z .if3 .left) h in
+    rw (w, t, c .renumber .ensures, q .ensures .0, q .ensures .1, pp, nn)
 
 pub encode-framed-spec : {M : Type 1} → statement M
 encode-framed-spec =

@@ -1,6 +1,6 @@
 use Rattle.literal.specs.Grammar.{escapeMeans}
 use Rattle.literal.specs.RunLaws.{escapeByte, escape-two, escape-not-two}
-use Rattle.literal.specs.WriteLaws.{patch-one, patch-two}
+use Rattle.wire.specs.RoomLaws.{patch-one, patch-two}
 use Rattle.escape.specs.Quote.{backslash}
 use lib.ListN.{length, length-set}
 use mathlib.Core.List.{[], _∷_}

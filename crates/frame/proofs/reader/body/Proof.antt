@@ -40,7 +40,9 @@ returns-2 : tie.Need-returns-2
 unfolding unreadOf
 returns-2 c =
     let a = c .before .before .before .before .before .before .before .before .args in
-    let h : a .len + 7 ≤ length (a .src .now) = omega (arith, has-yes (7 + a .len) (length (a .src .now)) (c .before .before .before .before .before .has .ensures) (not-false _ (c .before .before .before .before .if1 .left))) in
+    let z = c .before .before .before .before in
+    let h : a .len + 7 ≤ length (a .src .now) =
+    omega (arith, has-yes (7 + a .len) (length (a .src .now)) (z .before .has .ensures) (not-false _ (z .if1 .left))) in
     λ b. rw (body-sync (a .codec) (a .len) (a .number) (a .src .now) (unreadOf (a .codec) (a .staging .now)) (length (a .staging .now)) b h (c .before .before .if2 .taken), c .stop2 .ensures, c .before .close .ensures)
 
 sub-if3 : tie.Need-sub-if3
@@ -52,14 +54,18 @@ stop-requires-3 c κs = search needs
 returns-3 : tie.Need-returns-3
 returns-3 c =
     let a = c .before .before .before .before .before .before .before .before .before .args in
-    let h : a .len + 7 ≤ length (a .src .now) = omega (arith, has-yes (7 + a .len) (length (a .src .now)) (c .before .before .before .before .before .before .has .ensures) (not-false _ (c .before .before .before .before .before .if1 .left))) in
+    let z = c .before .before .before .before .before in
+    let h : a .len + 7 ≤ length (a .src .now) =
+    omega (arith, has-yes (7 + a .len) (length (a .src .now)) (z .before .has .ensures) (not-false _ (z .if1 .left))) in
     let r : length (a .staging .now) < a .codec .unread + a .len = omega (arith, c .before .if3 .taken, c .before .before .before .before .before .before .before .before .before .pre) in
     λ b. rw (body-no-room (a .codec) (a .len) (a .number) (a .src .now) (unreadOf (a .codec) (a .staging .now)) (length (a .staging .now)) b h (c .before .before .before .if2 .left) r, c .stop3 .ensures)
 
 take-frame-requires : tie.Need-take-frame-requires
 take-frame-requires c κs =
     let a = c .before .before .before .before .before .before .before .before .before .args in
-    let h : a .len + 7 ≤ length (a .src .now) = omega (arith, has-yes (7 + a .len) (length (a .src .now)) (c .before .before .before .before .before .before .has .ensures) (not-false _ (c .before .before .before .before .before .if1 .left))) in
+    let z = c .before .before .before .before .before in
+    let h : a .len + 7 ≤ length (a .src .now) =
+    omega (arith, has-yes (7 + a .len) (length (a .src .now)) (z .before .has .ensures) (not-false _ (z .if1 .left))) in
     (h, omega (arith, c .before .if3 .left, c .before .before .before .before .before .before .before .before .before .pre))
 
 same-length : tie.Need-same-length
@@ -68,9 +74,14 @@ same-length c = search needs
 returns-4 : tie.Need-returns-4
 returns-4 c =
     let a = c .before .before .before .before .before .before .before .before .before .before .before .before .args in
-    let h : a .len + 7 ≤ length (a .src .now) = omega (arith, has-yes (7 + a .len) (length (a .src .now)) (c .before .before .before .before .before .before .before .before .before .has .ensures) (not-false _ (c .before .before .before .before .before .before .before .before .if1 .left))) in
+    let z = c .before .before .before .before .before .before .before .before in
+    let h : a .len + 7 ≤ length (a .src .now) =
+    omega (arith, has-yes (7 + a .len) (length (a .src .now)) (z .before .has .ensures) (not-false _ (z .if1 .left))) in
     let r : a .codec .unread + a .len ≤ length (a .staging .now) = omega (arith, c .before .before .before .before .if3 .left, c .before .before .before .before .before .before .before .before .before .before .before .before .pre) in
-    λ b. rw (body-took (a .codec) (a .len) (a .number) (a .src .now) (unreadOf (a .codec) (a .staging .now)) (length (a .staging .now)) b h (c .before .before .before .before .before .before .if2 .left) r) (c .before .before .take-frame .ensures b)
+    let unread = unreadOf (a .codec) (a .staging .now) in
+    let room = length (a .staging .now) in
+    let m = c .before .before .before .before .before .before .if2 .left in
+    λ b. rw (body-took (a .codec) (a .len) (a .number) (a .src .now) unread room b h m r) (c .before .before .take-frame .ensures b)
 
 pub body-spec : {M : Type 1} → statement M
 body-spec =

@@ -21,7 +21,10 @@ same-length c = search needs
 returns : tie.Need-returns
 returns c =
     let a = c .before .before .before .before .before .before .before .args in
-    λ b. rw (frame-held (a .codec) (a .src .now) (unreadOf (a .codec) (a .staging .now)) (length (a .staging .now)) b (a .codec .size) (a .codec .coming) (rw (c .before .before .before .before .if1 .taken))) (c .before .before .body .ensures b)
+    let unread = unreadOf (a .codec) (a .staging .now) in
+    let room = length (a .staging .now) in
+    let t = c .before .before .before .before .if1 .taken in
+    λ b. rw (frame-held (a .codec) (a .src .now) unread room b (a .codec .size) (a .codec .coming) (rw t)) (c .before .before .body .ensures b)
 
 stop-requires : tie.Need-stop-requires
 stop-requires c κs = search needs
@@ -40,7 +43,10 @@ same-length-2 c = search needs
 returns-3 : tie.Need-returns-3
 returns-3 c =
     let a = c .before .before .before .before .before .before .before .before .args in
-    λ b. rw (frame-headed (a .codec) (a .src .now) (unreadOf (a .codec) (a .staging .now)) (length (a .staging .now)) b (rw (c .before .before .before .before .before .if1 .left)) (c .before .before .before .before .if2 .left)) (c .before .before .header .ensures b)
+    let unread = unreadOf (a .codec) (a .staging .now) in
+    let room = length (a .staging .now) in
+    let z = c .before .before .before .before in
+    λ b. rw (frame-headed (a .codec) (a .src .now) unread room b (rw (z .before .if1 .left)) (z .if2 .left)) (c .before .before .header .ensures b)
 
 pub frame-spec : {M : Type 1} → statement M
 frame-spec =
