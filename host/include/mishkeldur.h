@@ -53,6 +53,7 @@ enum {
     MK_OUT_OF_RANGE = 11,     /* a duration that no int64_t of microseconds holds at both signs */
     MK_BAD_ROW = 12,          /* a row's first byte is not 0 */
     MK_BAD_COLUMNS = 13,      /* 0 or more than MK_MAX_COLUMNS columns, or lists of unequal length */
+    MK_BAD_PACKET = 14,       /* a packet that is no OK, ERR or EOF, or an ERR without its SQL state's mark */
     MK_BAD_LITERAL = 15,      /* bytes that are no quoted literal */
     MK_ROW_TOO_LONG = 16,     /* a row that fits into no statement */
     MK_TOO_MANY_ROWS = 17,    /* more than MK_MAX_ROWS rows */
@@ -278,6 +279,66 @@ uint8_t mk_put_record(uint8_t *dst, size_t dst_len, size_t at, uint8_t kind, con
                       size_t *next);
 uint8_t mk_put_variable(uint8_t *dst, size_t dst_len, size_t at, const uint8_t *name, size_t name_len, const uint8_t *value,
                         size_t value_len, size_t *next);
+
+/* ---- OK, ERR and EOF packets ------------------------------------------------------------------------------------------------- */
+
+/*
+ * What a server answers to a command, in the forms of protocol 4.1. A packet is read into a list of numbers, filled whole, with 0 where its
+ * kind has no such field.
+ */
+enum {
+    MK_ANSWER_KIND = 0,        /* MK_ANSWER_OK, MK_ANSWER_ERR or MK_ANSWER_EOF */
+    MK_ANSWER_USED = 1,        /* how many bytes of the packet were read; those behind stay unread */
+    MK_ANSWER_STATUS = 2,      /* OK, EOF: the server's status */
+    MK_ANSWER_WARNINGS = 3,    /* OK, EOF: how many warnings */
+    MK_ANSWER_ROWS = 4,        /* OK: how many rows were affected */
+    MK_ANSWER_INSERT_ID = 5,   /* OK: the last insert id */
+    MK_ANSWER_CODE = 6,        /* ERR: the error code */
+    MK_ANSWER_MESSAGE = 7,     /* OK, ERR: the message's place in the packet, and its length */
+    MK_ANSWER_MESSAGE_LEN = 8,
+    MK_ANSWER_RECORDS = 9,     /* OK: the session records' place and length, for mk_next_record */
+    MK_ANSWER_RECORDS_LEN = 10,
+    MK_ANSWER_STATE = 9,       /* ERR: the place of the SQL state, and its length: always 5 */
+    MK_ANSWER_STATE_LEN = 10
+};
+
+#define MK_ANSWER_NUMBERS 11u /* the numbers of the list */
+
+/* The kind is the packet's header byte. */
+enum { MK_ANSWER_OK = 0x00, MK_ANSWER_EOF = 0xFE, MK_ANSWER_ERR = 0xFF };
+
+/* The bit of an OK's status which says that session records follow its message. */
+#define MK_SESSION_STATE_CHANGED 0x4000u
+
+/*
+ * The OK, ERR or EOF in a packet, to the front of `out`; out_len counts numbers, and what lies behind the MK_ANSWER_NUMBERS stays. `tracking`
+ * says whether session tracking was agreed at the login (CLIENT_SESSION_TRACK): if so an OK's message has a length, and records follow if
+ * the status has MK_SESSION_STATE_CHANGED; else the message runs to the end of the packet.
+ * In this order: MK_NO_ROOM: out has fewer numbers; MK_SHORT: an empty packet; MK_BAD_PACKET: another header byte, an EOF of 9 bytes or more,
+ * or an ERR without `#` (as servers send them before the login is done); MK_SHORT, MK_BAD_LEAD: the packet ends too early, or a length is none.
+ */
+uint8_t mk_read_answer(const uint8_t *packet, size_t packet_len, uint8_t tracking, uint64_t *out, size_t out_len);
+
+/*
+ * The session record at a place of an OK packet, out[MK_ANSWER_RECORDS] at first; `end` is that place and the records' length together. *found = 1,
+ * the record's type, the part of the packet that mk_read_record(packet + *place, *len, *kind, ..) takes (or mk_next_variable, for type 0), and
+ * the next place. At the end *found = 0 and the others stay. MK_SHORT (also beyond the end, and where the end lies beyond the packet), MK_BAD_LEAD.
+ */
+uint8_t mk_next_record(const uint8_t *packet, size_t packet_len, size_t at, size_t end, uint8_t *found, uint8_t *kind, size_t *place,
+                       size_t *len, size_t *next);
+
+/*
+ * The same packets written. Without tracking an OK has neither a length before its message nor records; with it the records are written if the
+ * status has MK_SESSION_STATE_CHANGED. mk_put_err: MK_SHORT first, if the SQL state is not 5 bytes long; then nothing is changed either.
+ */
+uint8_t mk_put_ok(uint8_t *dst, size_t dst_len, size_t at, uint64_t rows, uint64_t insert_id, uint16_t status, uint16_t warnings,
+                  const uint8_t *message, size_t message_len, const uint8_t *records, size_t records_len, uint8_t tracking, size_t *next);
+uint8_t mk_put_err(uint8_t *dst, size_t dst_len, size_t at, uint16_t code, const uint8_t *state, size_t state_len, const uint8_t *message,
+                   size_t message_len, size_t *next);
+uint8_t mk_put_eof(uint8_t *dst, size_t dst_len, size_t at, uint16_t warnings, uint16_t status, size_t *next);
+
+/* One of an OK packet's records: its type, its length, and `body`, which is what mk_put_record or mk_put_variable wrote for that type. */
+uint8_t mk_put_typed_record(uint8_t *dst, size_t dst_len, size_t at, uint8_t kind, const uint8_t *body, size_t body_len, size_t *next);
 
 /* ---- Damaged captures ------------------------------------------------------------------------------------------------------ */
 

@@ -4,8 +4,7 @@
 #include <inttypes.h>
 #include <string.h>
 
-enum { OK = 0x00, EOF_MARK = 0xFE, ERR = 0xFF };
-enum { EOF_LONGEST = 8, MORE_RESULTS = 0x0008, UNSIGNED_FLAG = 0x20, TIME_TYPE = 11 };
+enum { PREPARED = 0x00, MORE_RESULTS = 0x0008, UNSIGNED_FLAG = 0x20, TIME_TYPE = 11 };
 
 /* The next packet of an answer. No packet that belongs to a good answer starts with 0xFF, so here it is always an ERR. */
 bool answer_next(struct load *load)
@@ -15,20 +14,25 @@ bool answer_next(struct load *load)
         return false;
     if (line->len == 0)
         return fail("packet %" PRIu64 " of the server is empty", line->packets);
-    return line->packet[0] == ERR ? server_error(line) : true;
+    return line->packet[0] == MK_ANSWER_ERR ? server_error(load) : true;
 }
 
-/* A long value of a text row may start with 0xFE too: only a short packet is an EOF. */
-static bool is_eof(const struct line *line)
+/* The numbers of the OK or EOF that the line has read last. */
+bool answer_read(const struct load *load, uint64_t numbers[MK_ANSWER_NUMBERS])
 {
-    return line->packet[0] == EOF_MARK && line->len <= EOF_LONGEST;
+    const struct line *line = &load->line;
+    uint8_t status = mk_read_answer(line->packet, line->len, load->tracking, numbers, MK_ANSWER_NUMBERS);
+    return status == MK_OK || refused(line, status);
 }
 
 static bool read_eof(struct load *load)
 {
+    uint64_t numbers[MK_ANSWER_NUMBERS];
     if (!answer_next(load))
         return false;
-    return is_eof(&load->line) ? true : fail("packet %" PRIu64 " should be the EOF behind the column definitions", load->line.packets);
+    if (load->line.packet[0] != MK_ANSWER_EOF)
+        return fail("packet %" PRIu64 " should be the EOF behind the column definitions", load->line.packets);
+    return answer_read(load, numbers);
 }
 
 /* A column definition: six strings, the fifth of them its name, then twelve fixed bytes and what a server may add. */
@@ -82,7 +86,7 @@ bool answer_prepared(struct load *load, uint32_t *statement)
     struct line *line = &load->line;
     if (!answer_next(load))
         return false;
-    if (line->packet[0] != OK || line->len < 12)
+    if (line->packet[0] != PREPARED || line->len < 12)
         return fail("packet %" PRIu64 " is no answer to a prepare", line->packets);
     *statement = little(line->packet + 1, 4);
     size_t columns = little(line->packet + 5, 2), parameters = little(line->packet + 7, 2);
@@ -193,18 +197,21 @@ static bool read_row(struct load *load)
 static bool read_rows(struct load *load)
 {
     struct line *line = &load->line;
+    uint64_t numbers[MK_ANSWER_NUMBERS];
     for (;;) {
         line->row = load->rows + 1;
         if (!answer_next(load))
             return false;
-        if (is_eof(line))
+        if (line->packet[0] == MK_ANSWER_EOF)
             break;
         if (!read_row(load))
             return false;
         progress(load);
     }
+    if (!answer_read(load, numbers))
+        return false;
     line->row = 0;
-    if (line->len >= 5 && (little(line->packet + 3, 2) & MORE_RESULTS))
+    if (numbers[MK_ANSWER_STATUS] & MORE_RESULTS)
         return fail("the server announces a second result, and only one was asked for");
     return true;
 }
@@ -213,10 +220,11 @@ static bool read_rows(struct load *load)
 bool answer_rows(struct load *load)
 {
     size_t count = 0;
+    uint64_t numbers[MK_ANSWER_NUMBERS];
     if (!answer_next(load))
         return false;
-    if (load->line.packet[0] == OK)
-        return true;
+    if (load->line.packet[0] == MK_ANSWER_OK)
+        return answer_read(load, numbers);
     if (!read_column_count(load, &count) || !read_columns(load, count) || !read_rows(load))
         return false;
     load->results++;

@@ -13,7 +13,7 @@
 #include <unistd.h>
 
 enum { COM_STMT_PREPARE = 0x16, COM_STMT_EXECUTE = 0x17 };
-enum { GREETING = 10, OK = 0x00, AUTH_SWITCH = 0xFE, AUTH_MORE = 0x01 };
+enum { GREETING = 10, AUTH_SWITCH = 0xFE, AUTH_MORE = 0x01 };
 enum { COMMANDS_LONGEST = 256 * 1024 * 1024, CLIENT_LIMIT = 65536 };
 
 /* The server's bytes: handed out up to the end of the present exchange, and no further. */
@@ -99,6 +99,7 @@ static bool open_files(struct replay *replay, const char *index)
         return false;
     if (replay->index.deprecate_eof)
         return fail("%s: CLIENT_DEPRECATE_EOF was agreed there, and this loader reads answers that end in EOF", index);
+    replay->load->tracking = replay->index.session_track;
     if (from_stdin)
         return true;
     replay->tape.file = open(options->capture, O_RDONLY);
@@ -124,6 +125,7 @@ static bool client_packet(struct replay *replay)
 static bool replay_login(struct replay *replay)
 {
     struct line *line = &replay->load->line;
+    uint64_t numbers[MK_ANSWER_NUMBERS];
     if (!answer_next(replay->load))
         return false;
     if (line->packet[0] != GREETING)
@@ -131,8 +133,8 @@ static bool replay_login(struct replay *replay)
     for (;;) {
         if (!line_write(&replay->client, line->packet, line->len) || !client_packet(replay) || !answer_next(replay->load))
             return false;
-        if (line->packet[0] == OK)
-            return true;
+        if (line->packet[0] == MK_ANSWER_OK)
+            return replay->load->logged_in = answer_read(replay->load, numbers);
         if (line->packet[0] != AUTH_SWITCH && line->packet[0] != AUTH_MORE)
             return fail("packet %" PRIu64 " has no place in a login", line->packets);
     }

@@ -234,14 +234,16 @@ static bool exchanges(struct text *text, struct capture_index *index)
 
 static bool whole(struct text *text, struct capture_index *index)
 {
-    static const char *const names[] = {"exchanges", "deprecate_eof"};
+    static const char *const names[] = {"exchanges", "deprecate_eof", "session_track"};
     if (!sign(text, '{'))
         return odd(text, "{");
     do {
         size_t which = 0;
-        if (!name(text, names, 2, &which))
+        if (!name(text, names, 3, &which))
             return false;
-        if (!(which == 0 ? exchanges(text, index) : which == 1 ? yes_or_no(text, &index->deprecate_eof) : skip_value(text)))
+        if (!(which == 0 ? exchanges(text, index)
+                         : which == 1 ? yes_or_no(text, &index->deprecate_eof)
+                                      : which == 2 ? yes_or_no(text, &index->session_track) : skip_value(text)))
             return false;
     } while (sign(text, ','));
     if (!sign(text, '}'))

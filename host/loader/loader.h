@@ -71,12 +71,14 @@ struct load {
     struct columns columns;
     struct queue queue;
     uint64_t rows, nulls, results;
+    bool logged_in;
+    bool tracking; /* session tracking was agreed at the login */
 };
 
 /* report.c: what people see. fail and refused answer false, so that callers can hand it on. */
 bool fail(const char *format, ...) __attribute__((format(printf, 1, 2)));
 bool refused(const struct line *line, uint8_t status);
-bool server_error(const struct line *line);
+bool server_error(const struct load *load);
 const char *clean(char *into, size_t room, const uint8_t *bytes, size_t len);
 double seconds_now(void);
 void progress(const struct load *load);
@@ -93,6 +95,7 @@ bool line_unread(const struct line *line, size_t *unread);
 
 /* answer.c: what the server answers. */
 bool answer_next(struct load *load);
+bool answer_read(const struct load *load, uint64_t numbers[MK_ANSWER_NUMBERS]);
 bool answer_prepared(struct load *load, uint32_t *statement);
 bool answer_rows(struct load *load);
 
@@ -114,7 +117,7 @@ struct exchange {
 struct capture_index {
     struct exchange *exchanges;
     size_t count;
-    bool deprecate_eof;
+    bool deprecate_eof, session_track;
 };
 
 bool index_read(struct capture_index *index, const char *file);

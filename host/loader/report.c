@@ -97,19 +97,23 @@ const char *clean(char *into, size_t room, const uint8_t *bytes, size_t len)
     return into;
 }
 
-/* An ERR packet: its code, its SQL state where there is one (none before the login), its text. */
-bool server_error(const struct line *line)
+/*
+ * Why the server refused the login or the query: code, SQL state and text of the ERR that the line has read last. Before the login is done a
+ * server may send one without a state, which is no ERR of protocol 4.1: then its code, and the bytes behind it as they stand.
+ */
+bool server_error(const struct load *load)
 {
-    const uint8_t *packet = line->packet;
-    char text[513], state[6] = "";
-    size_t at = 3;
-    if (line->len < 3)
-        return fail("the server sent an ERR packet without a code (packet %" PRIu64 ")", line->packets);
-    if (line->len >= 9 && packet[3] == '#') {
-        clean(state, sizeof state, packet + 4, 5);
-        at = 9;
-    }
-    clean(text, sizeof text, packet + at, line->len - at);
-    return fail("the server answers error %u%s%s%s: %s", (unsigned)little(packet + 1, 2), *state ? " (" : "", state, *state ? ")" : "",
-                text);
+    const struct line *line = &load->line;
+    const char *asked = load->logged_in ? "query" : "login";
+    uint64_t numbers[MK_ANSWER_NUMBERS];
+    char text[513], state[6];
+    uint8_t status = mk_read_answer(line->packet, line->len, load->tracking, numbers, MK_ANSWER_NUMBERS);
+    if (status == MK_BAD_PACKET)
+        return fail("the server refused the %s: %u, without a SQL state (%s): %s", asked, (unsigned)little(line->packet + 1, 2),
+                    mk_refusal_text(status), clean(text, sizeof text, line->packet + 3, line->len - 3));
+    if (status != MK_OK)
+        return refused(line, status);
+    clean(state, sizeof state, line->packet + numbers[MK_ANSWER_STATE], numbers[MK_ANSWER_STATE_LEN]);
+    clean(text, sizeof text, line->packet + numbers[MK_ANSWER_MESSAGE], numbers[MK_ANSWER_MESSAGE_LEN]);
+    return fail("the server refused the %s: %u (%s): %s", asked, (unsigned)numbers[MK_ANSWER_CODE], state, text);
 }

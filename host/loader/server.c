@@ -12,7 +12,7 @@
 
 enum { TIMEOUT = 30, PACKET_ROOM = 1024 };
 enum { COM_QUIT = 0x01, COM_STMT_PREPARE = 0x16, COM_STMT_EXECUTE = 0x17, COM_STMT_CLOSE = 0x19 };
-enum { OK = 0x00, AUTH_SWITCH = 0xFE };
+enum { AUTH_SWITCH = 0xFE };
 
 static const char *what_failed(void)
 {
@@ -129,6 +129,7 @@ static bool log_in(struct load *load, int server)
 {
     uint8_t packet[PACKET_ROOM];
     size_t len = 0;
+    uint64_t numbers[MK_ANSWER_NUMBERS];
     struct line *line = &load->line;
     if (!answer_next(load) || !login_answer(line, load->options, packet, sizeof packet, &len) ||
         !send_packet(load, server, packet, len) || !answer_next(load))
@@ -137,9 +138,10 @@ static bool log_in(struct load *load, int server)
     if (line->packet[0] == AUTH_SWITCH && (!login_switch(line, load->options, packet, sizeof packet, &len) ||
                                            !send_packet(load, server, packet, len) || !answer_next(load)))
         return false;
-    if (line->packet[0] != OK)
+    if (line->packet[0] != MK_ANSWER_OK)
         return fail("the server answers the login with a packet of kind 0x%02X", (unsigned)line->packet[0]);
-    return !load->options->stored || line_frames_on(line);
+    load->logged_in = answer_read(load, numbers);
+    return load->logged_in && (!load->options->stored || line_frames_on(line));
 }
 
 static bool command(struct load *load, int server, const uint8_t *packet, size_t len)

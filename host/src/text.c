@@ -21,6 +21,7 @@ const char *mk_refusal_text(uint8_t status)
     case MK_OUT_OF_RANGE: return "11: out of range";
     case MK_BAD_ROW: return "12: bad row";
     case MK_BAD_COLUMNS: return "13: bad columns";
+    case MK_BAD_PACKET: return "14: bad packet";
     case MK_BAD_LITERAL: return "15: bad literal";
     case MK_ROW_TOO_LONG: return "16: row too long";
     case MK_TOO_MANY_ROWS: return "17: too many rows";

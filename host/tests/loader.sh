@@ -124,7 +124,15 @@ for framed in false true; do
     make_capture behind "$framed" "$minute_before 00" "$eof"
     run "a byte behind a row" 1 "1 bytes behind its last value" "$work/behind.s2c.bin"
     make_capture error "$framed" "$minute_before" "ff 25 05 23 37 30 31 30 30 67 6f 6e 65"
-    run "an ERR among rows" 1 "the server answers error 1317 (70100): gone" "$work/error.s2c.bin"
+    run "an ERR among rows" 1 "the server refused the query: 1317 (70100): gone" "$work/error.s2c.bin"
+    make_capture error "$framed" "$minute_before" "ff 25 05 23 37 30 31 30"
+    run "an ERR that is cut" 1 "refused 8 (short)" "$work/error.s2c.bin"
+    make_capture error "$framed" "$minute_before" "ff 25 05 67 6f 6e 65"
+    run "an ERR without a state" 1 "the server refused the query: 1317, without a SQL state (14: bad packet): gone" "$work/error.s2c.bin"
+    make_capture nine "$framed" "$minute_before" "fe 00 00 02 00 00 00 00 00"
+    run "nine bytes are no EOF" 1 "refused 14 (bad packet)" "$work/nine.s2c.bin"
+    make_capture four "$framed" "$minute_before" "fe 00 00 02"
+    run "an EOF that is cut" 1 "refused 8 (short)" "$work/four.s2c.bin"
     make_capture open "$framed" "$minute_before"
     run "no EOF" 1 "the server's bytes end after byte" "$work/open.s2c.bin"
     make_capture after "$framed" "$minute_before" "$eof" "$minute_before"
@@ -147,6 +155,26 @@ run "a frame with a plain length alone" 1 "refused 4 (bad frame header) at byte 
 make_capture bad false "$minute_before" "$eof"
 patch bad.s2c.bin $((first + 3)) 02
 run "a chunk's number" 1 "refused 3 (out of sync) at byte $first of the server's bytes, packet 3" "$work/bad.s2c.bin"
+
+# Logins that are refused: before the greeting, in a form without a state, and after it; and an OK that is none.
+kept_greeting=$greeting kept_ok=$ok
+greeting="ff 10 04 54 6f 6f 20 6d 61 6e 79"
+make_capture login false "$minute_before" "$eof"
+run "no connection left" 1 "the server refused the login: 1040, without a SQL state (14: bad packet): Too many" "$work/login.s2c.bin"
+greeting=$kept_greeting
+ok="ff 15 04 23 32 38 30 30 30 6e 6f"
+make_capture login false "$minute_before" "$eof"
+run "a refused login" 1 "the server refused the login: 1045 (28000): no" "$work/login.s2c.bin"
+ok="00 00 fb 02 00 00 00"
+make_capture login false "$minute_before" "$eof"
+run "an OK that can't be read" 1 "refused 9 (bad lead)" "$work/login.s2c.bin"
+# Under tracking its message has a length.
+ok="00 00 00 02 00 00 00 03 61"
+make_capture login false "$minute_before" "$eof"
+run "a message to the end" 0 "1 rows" "$work/login.s2c.bin"
+sed 's/"deprecate_eof"/"session_track": true, "deprecate_eof"/' "$work/login.index.json" > "$work/x" && mv "$work/x" "$work/login.index.json"
+run "a message behind its length" 1 "refused 8 (short)" "$work/login.s2c.bin"
+ok=$kept_ok
 
 # Indexes that are not to be believed.
 make_capture good false "$minute_before" "$eof"

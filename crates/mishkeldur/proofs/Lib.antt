@@ -1,3 +1,4 @@
+pub mod AnswerLaws
 pub mod EntryLaws
 pub mod FaceLaws
 pub mod LiteralLaws

@@ -11,7 +11,10 @@ use Rattle.frame.specs.declared.PacketCodec.{PacketCodec}
 use Rattle.codec.specs.Connection.{stagingStays}
 use Rattle.salvage.specs.Salvage.{stretches, numbers, counted, salvaged, leftIn}
 use Rattle.pack.specs.Pack.{judged, plan, planned, leaves}
-use Rattle.mishkeldur.specs.Face.{status, holds, flagNo, Puts}
+use Rattle.wire.specs.Room.{patch}
+use Rattle.answer.specs.Answer.{answerAt}
+use Rattle.mishkeldur.specs.Answers.{answerNumbers, listed, PutsErr}
+use Rattle.mishkeldur.specs.Face.{status, holds, flag, flagNo, Puts}
 use Rattle.mishkeldur.specs.Literals.{Judges}
 use Rattle.mishkeldur.specs.State.{short, codecOf, readBy, Opens, Changes, Reads, Writes, Looks}
 
@@ -130,3 +133,21 @@ pub judge-unique : (o limit : ℕ) (rows proposal : List ℕ) (old : ℕ) {r q a
     → (q ≡ status (judged o limit rows proposal)) × (a₂ ≡ holds (judged o limit rows proposal) (λ b. flagNo b) old)
     → (r ≡ q) × (a₁ ≡ a₂)
 judge-unique o limit rows proposal old v w = (v .0 ∙ sym (w .0), v .1 ∙ sym (w .1))
+
+-- ---- OK, ERR and EOF packets: `mk_next_record` with `status-unique` and `number-unique`, `mk_put_ok`, `mk_put_eof` and
+-- `mk_put_typed_record` with `puts-unique`
+
+-- `mk_read_answer`: the status and the whole list
+pub answer-unique : (s d : List ℕ) (tracking : ℕ) {r q : ℕ} {d₁ d₂ : List ℕ}
+    → (r ≡ status (listed d (answerAt s (flag tracking))))
+    × (d₁ ≡ holds (listed d (answerAt s (flag tracking))) (λ a. patch d 0 (answerNumbers a)) d)
+    → (q ≡ status (listed d (answerAt s (flag tracking))))
+    × (d₂ ≡ holds (listed d (answerAt s (flag tracking))) (λ a. patch d 0 (answerNumbers a)) d)
+    → (r ≡ q) × (d₁ ≡ d₂)
+answer-unique s d tracking v w = (v .0 ∙ sym (w .0), v .1 ∙ sym (w .1))
+
+-- `mk_put_err`
+pub puts-err-unique : {code : ℕ} {state message d : List ℕ} {at old r q : ℕ} {d₁ d₂ : List ℕ} {n₁ n₂ : ℕ}
+    → PutsErr code state message d at old r d₁ n₁ → PutsErr code state message d at old q d₂ n₂
+    → (r ≡ q) × (d₁ ≡ d₂) × (n₁ ≡ n₂)
+puts-err-unique v w = (v .status ∙ sym (w .status), v .left ∙ sym (w .left), v .next ∙ sym (w .next))

@@ -4,3 +4,4 @@ pub mod StateLaws
 pub mod Whole
 pub mod Values
 pub mod Literals
+pub mod Answers

@@ -25,6 +25,7 @@ ghost use Rattle.codec.specs.Connection.{framesOn, synced};
 ghost use Rattle.mishkeldur.specs.Face.{status, holds, flag};
 ghost use Rattle.mishkeldur.specs.State.{stateSize, Opens, Changes, Looks, Reads, Writes};
 
+mod answers;
 mod damage;
 mod literals;
 mod packing;

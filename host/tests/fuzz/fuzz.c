@@ -48,7 +48,7 @@ static void note(uint8_t status)
 {
     switch (status) {
 #define CASE(n) case n: seen[n]++; break;
-        CASE(0) CASE(1) CASE(2) CASE(3) CASE(4) CASE(5) CASE(6) CASE(7) CASE(8) CASE(9) CASE(10) CASE(11) CASE(12) CASE(13) CASE(255)
+        CASE(0) CASE(1) CASE(2) CASE(3) CASE(4) CASE(5) CASE(6) CASE(7) CASE(8) CASE(9) CASE(10) CASE(11) CASE(12) CASE(13) CASE(14) CASE(255)
     default: PROMISE(!"a status that is none");
     }
 }
@@ -177,6 +177,48 @@ static void salvage(input in)
     PROMISE(at == in.len);
 }
 
+/* The bytes that an OK's numbers make again: those that were used, where each length in them had its shortest form. */
+static void put_again(const uint8_t *s, const uint64_t *a, uint8_t tracking)
+{
+    static uint8_t wire[MOST + 32];
+    size_t n = STALE;
+    uint64_t b[MK_ANSWER_NUMBERS];
+    PROMISE(mk_put_ok(wire, sizeof wire, 0, a[MK_ANSWER_ROWS], a[MK_ANSWER_INSERT_ID], (uint16_t)a[MK_ANSWER_STATUS],
+                      (uint16_t)a[MK_ANSWER_WARNINGS], s + a[MK_ANSWER_MESSAGE], a[MK_ANSWER_MESSAGE_LEN], s + a[MK_ANSWER_RECORDS],
+                      a[MK_ANSWER_RECORDS_LEN], tracking, &n) == MK_OK);
+    PROMISE(mk_read_answer(wire, n, tracking, b, MK_ANSWER_NUMBERS) == MK_OK && b[MK_ANSWER_USED] == n);
+    for (size_t i = MK_ANSWER_STATUS; i < MK_ANSWER_MESSAGE; i++) PROMISE(a[i] == b[i]);
+    PROMISE(a[MK_ANSWER_MESSAGE_LEN] == b[MK_ANSWER_MESSAGE_LEN] && a[MK_ANSWER_RECORDS_LEN] == b[MK_ANSWER_RECORDS_LEN]);
+    PROMISE(memcmp(s + a[MK_ANSWER_MESSAGE], wire + b[MK_ANSWER_MESSAGE], a[MK_ANSWER_MESSAGE_LEN]) == 0);
+    PROMISE(memcmp(s + a[MK_ANSWER_RECORDS], wire + b[MK_ANSWER_RECORDS], a[MK_ANSWER_RECORDS_LEN]) == 0);
+}
+
+/* An answer: its parts lie within what was used, its records within their part; a refusal leaves the list; an OK written is read as it was. */
+static void answer(input in)
+{
+    uint8_t tracking = take(&in), found = 1, kind = 0, r;
+    uint64_t a[MK_ANSWER_NUMBERS + 1], used;
+    const uint8_t *s = lend_rest(&in);
+    size_t n = in.len, place = 0, len = 0, next = 0;
+    for (size_t i = 0; i <= MK_ANSWER_NUMBERS; i++) a[i] = STALE;
+    PROMISE(mk_read_answer(s, n, tracking, a, MK_ANSWER_NUMBERS - 1) == MK_NO_ROOM && a[0] == STALE);
+    note(r = mk_read_answer(s, n, tracking, a, MK_ANSWER_NUMBERS + 1));
+    for (size_t i = r ? 0 : MK_ANSWER_NUMBERS; i <= MK_ANSWER_NUMBERS; i++) PROMISE(a[i] == STALE);
+    if (r) return;
+    used = a[MK_ANSWER_USED];
+    PROMISE(used <= n && a[MK_ANSWER_KIND] == s[0]);
+    PROMISE(a[MK_ANSWER_MESSAGE] <= used && a[MK_ANSWER_MESSAGE_LEN] <= used - a[MK_ANSWER_MESSAGE]);
+    PROMISE(a[9] <= used && a[10] <= used - a[9]);
+    if (a[MK_ANSWER_KIND] != MK_ANSWER_OK) return;
+    size_t at = a[MK_ANSWER_RECORDS], end = at + a[MK_ANSWER_RECORDS_LEN];
+    for (; !r && found; at = found ? next : at) {
+        note(r = mk_next_record(s, n, at, end, &found, &kind, &place, &len, &next));
+        PROMISE(r || !found || (place > at && next <= end && len == next - place));
+    }
+    PROMISE(r || at == end);
+    put_again(s, a, tracking);
+}
+
 int LLVMFuzzerTestOneInput(const uint8_t *data, size_t size);
 
 int LLVMFuzzerTestOneInput(const uint8_t *data, size_t size)
@@ -193,7 +235,7 @@ int LLVMFuzzerTestOneInput(const uint8_t *data, size_t size)
     case 0: case 1: case 2: connection(in, false); break;
     case 3: connection(in, true); break;
     case 4: round_trip(in); break;
-    case 5: which & 8 ? salvage(in) : quoting(in); break;
+    case 5: which & 16 ? answer(in) : which & 8 ? salvage(in) : quoting(in); break;
     default: values(in, which >> 3); break;
     }
     return 0;

@@ -1,8 +1,9 @@
 #!/bin/sh
 # The loader against a real MariaDB server: plain, with frames that an ordinary server packs (refusal 5), and with frames that it
-# stores; the checker of literals against what the server reads; and the station names packed into statements, which the server takes
-# within the box's limit. The server is Debian's, has its data in a temporary folder, listens on a unix socket and on loopback, and runs
-# without privileges. What the loader prints is held to what the server's own client prints. Everything is stopped and removed at the end.
+# stores; why a query or a login failed, as the loader shows it; the checker of literals against what the server reads; and the station
+# names packed into statements, which the server takes within the box's limit. The server is Debian's, has its data in a temporary
+# folder, listens on a unix socket and on loopback, and runs without privileges. What the loader prints is held to what the server's
+# own client prints. Everything is stopped and removed at the end.
 set -eu
 cd "$(dirname "$0")/../.."
 loader=${LOADER:-build/asan/loader}
@@ -143,8 +144,36 @@ must_load "plain, a user without a password" "$socket" "$table" --user open --pa
 must_refuse "packed frames, socket" "refused 5 (packed)" "$socket" "$table" --stored
 must_refuse "packed frames, loopback" "refused 5 (packed)" "127.0.0.1:$port" "$table" --stored
 must_refuse "a limit below a row" "refused 2 (too large)" "$socket" "$table" --limit 8192
-must_refuse "no such table" "error 1146 (42S02)" "$socket" "no such table"
-must_refuse "a wrong password" "error 1045 (28000)" "$socket" "$table" --password-file "$work/wrong"
+# Why a query or a login failed: the server's code, SQL state and text.
+must_refuse "no such table" "the server refused the query: 1146 (42S02): Table 'depot.no such table' doesn't exist" "$socket" "no such table"
+must_refuse "a wrong password" "the server refused the login: 1045 (28000): Access denied for user 'depot'@'localhost' (using password: YES)" \
+    "$socket" "$table" --password-file "$work/wrong"
+# No connection is left: this ERR comes before the login, and has no SQL state. With 10 allowed the server keeps one more for a
+# superuser, so eleven clients hold them, until the pipe ends; the kernel counts them, since one more client would take a place.
+most=$(client -e 'SELECT @@GLOBAL.max_connections')
+client -e 'SET GLOBAL max_connections = 10'
+mkfifo "$work/hold"
+holders=
+for _ in 1 2 3 4 5 6 7 8 9 10 11; do
+    mariadb --no-defaults --socket="$socket" --user=root --batch < "$work/hold" > /dev/null 2>&1 &
+    holders="$holders $!"
+done
+exec 9> "$work/hold"
+waited=0
+while [ "$waited" -lt 50 ] && [ "$(grep -cF "$socket" /proc/net/unix)" -lt 12 ]; do
+    sleep 0.1
+    waited=$((waited + 1))
+done
+must_refuse "no connection left" "the server refused the login: 1040, without a SQL state (14: bad packet): Too many connections" "$socket" "$table"
+exec 9>&-
+# shellcheck disable=SC2086
+wait $holders || true
+waited=0
+until client -e "SET GLOBAL max_connections = $most" 2> /dev/null; do
+    [ "$waited" -lt 50 ] || { say "no connection came free"; exit 1; }
+    sleep 0.1
+    waited=$((waited + 1))
+done
 must_refuse "a password of the old form" "before version 4.1" "$socket" "$table" --user ancient
 must_refuse "no TIME column" "no TIME column" "$socket" "$table" --offset id
 
