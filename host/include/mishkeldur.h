@@ -8,9 +8,10 @@
  * ---------------------
  * - Bytes are lent as a pointer and a length. A pointer may be NULL where its length is 0.
  * - Every entry ends and answers, whatever bytes and numbers it is lent. It answers a status (below): MK_OK, a refusal, or
- *   MK_NEED_MORE from mk_read alone.
+ *   MK_NEED_MORE from mk_read and mk_stream_read alone.
  * - What an entry gives it writes to the numbers that it is lent by pointer. ON A REFUSAL IT LEAVES THEM, AND EVERY BYTE
- *   LENT TO IT, AS THEY WERE, but for what mk_open, mk_read, mk_literal and mk_literal_len say of themselves.
+ *   LENT TO IT, AS THEY WERE, but for what mk_open, mk_read, mk_stream_open, mk_stream_read, mk_literal and mk_literal_len say of
+ *   themselves.
  * - A pointer to a number must not be NULL.
  * - A "place" counts bytes from the front of the slice that it belongs to. Any place may be given; one beyond the end is refused
  *   wherever a byte is read or written there (a value of type 6 takes no bytes, and is NULL at any place).
@@ -57,7 +58,7 @@ enum {
     MK_BAD_LITERAL = 15,      /* bytes that are no quoted literal */
     MK_ROW_TOO_LONG = 16,     /* a row that fits into no statement */
     MK_TOO_MANY_ROWS = 17,    /* more than MK_MAX_ROWS rows */
-    MK_NEED_MORE = 255        /* mk_read: no refusal; lend more bytes */
+    MK_NEED_MORE = 255        /* mk_read, mk_stream_read: no refusal; lend more bytes */
 };
 
 /* A status in words, as "3: out of sync"; never NULL. */
@@ -73,6 +74,7 @@ const char *mk_version(void);
 #define MK_MAX_COLUMNS 4096u
 #define MK_MAX_ROWS 8192u          /* the most rows that mk_plan and mk_judge look at */
 #define MK_STATE_SIZE 128u         /* the bytes of a state; mk_state_size() answers the same */
+#define MK_STREAM_SIZE 64u         /* the bytes of a stream's state */
 
 /* Staging for mk_read with frames on: with so many bytes, and a packet buffer of `limit` bytes, it never answers MK_NO_ROOM. */
 #define MK_STAGING_SIZE(limit) (2 * (size_t)(limit) + 4)
@@ -151,6 +153,57 @@ uint8_t mk_read(uint8_t *state, size_t state_len, const uint8_t *src, size_t src
  */
 uint8_t mk_write(uint8_t *state, size_t state_len, const uint8_t *packet, size_t packet_len, uint8_t *dst, size_t dst_len,
                  size_t *written);
+
+/* ---- Packets longer than any buffer ------------------------------------------------------------------------------------- */
+
+/*
+ * A second reader of plain chunks, for who can't hold a packet, or not even a chunk, whole. Nothing is copied and nothing is waited for: each
+ * call takes bytes up to one chunk's end and says which of them are payload. A host hands these on as they come:
+ *
+ *     uint8_t stream[MK_STREAM_SIZE], bytes[4096];
+ *     status = mk_stream_open(stream, sizeof stream, limit);
+ *     while ((n = receive(bytes, sizeof bytes)) > 0) {
+ *         for (size_t from = 0; from < n; from += used) {
+ *             status = mk_stream_read(stream, sizeof stream, bytes + from, n - from, &used, &place, &len, &ends);
+ *             if (status == MK_NEED_MORE) continue;      // a part of a header; all bytes are used
+ *             if (status != MK_OK) return status;        // a refusal: throw away what came of this packet
+ *             hand_on(bytes + from + place, len);
+ *             if (ends) packet_is_whole();
+ *         }
+ *     }
+ *
+ * WHAT IS NOT VOUCHED FOR: THE BYTES OF A PACKET WHOSE END HAS NOT BEEN MARKED. The rest may be refused, or never come; do nothing with them
+ * that can't be undone. The marked packets are, however the bytes are cut, those that mk_read hands out with enough room, and a refusal is
+ * the same once mk_read has the whole chunk; but MK_OUT_OF_SYNC comes as soon as the header is there.
+ *
+ * The state is MK_STREAM_SIZE bytes that you keep, as those of a connection, and any content is some state: zeroed or foreign memory is almost
+ * surely a closed one. A connection's state is a closed stream, and a stream's a closed connection. There are no frames here.
+ *
+ * One number serves both ways. A host that writes its commands with mk_write tells the stream the number that the answer begins with:
+ * mk_look, then mk_stream_seq_id; 0 is a reset.
+ */
+
+/*
+ * Opens a stream of packets of at most `limit` bytes each: number 0, between two packets.
+ * MK_NO_ROOM: a short state. MK_BAD_LIMIT: limit is 0 or above MK_MAX_LIMIT; the state is then written, and closed.
+ */
+uint8_t mk_stream_open(uint8_t *state, size_t state_len, size_t limit);
+
+/* The next chunk has this number; nothing else changes, and a closed stream stays closed. MK_NO_ROOM: a short state. */
+uint8_t mk_stream_seq_id(uint8_t *state, size_t state_len, uint8_t number);
+
+/*
+ * Takes bytes of `src` up to one chunk's end, header bytes included.
+ *
+ * MK_OK: the *len bytes at src + *place are the next of the packet, and *ends is 1 if it ends with them, else 0. *len may be 0: a header came and
+ * nothing behind it, or an empty chunk. MK_NEED_MORE: src was empty, or held a part of a header, which the state keeps. On EVERY answer *used
+ * says how many bytes of src were used (0 on a refusal); *place, *len and *ends are written on MK_OK alone. Lend the rest again.
+ *
+ * In this order: MK_NO_ROOM: a short state; MK_CLOSED; MK_TOO_LARGE: the packet would exceed the limit; MK_OUT_OF_SYNC: the header has the wrong
+ * number. The last two close the state. No byte of src is changed.
+ */
+uint8_t mk_stream_read(uint8_t *state, size_t state_len, const uint8_t *src, size_t src_len, size_t *used, size_t *place, size_t *len,
+                       uint8_t *ends);
 
 /* ---- Length-encoded integers and strings ---------------------------------------------------------------------------------- */
 

@@ -37,7 +37,7 @@ struct replay {
     bool framed;
 };
 
-static ssize_t read_some(int file, uint8_t *bytes, size_t room)
+ssize_t read_some(int file, uint8_t *bytes, size_t room)
 {
     ssize_t got;
     do

@@ -23,6 +23,9 @@ struct options {
     const char *capture, *index;
     const char *connect, *user, *password_file, *database, *table;
     bool stored;
+    bool stream;     /* packets alone, straight through */
+    uint64_t packet; /* with it, the one whose payload is written; 0: none */
+    bool rows;       /* an option for rows was given */
 };
 
 /* Where a line's bytes come from: fills up to `room` bytes, answers how many; 0 at the end, -1 after it has said what failed. */
@@ -98,6 +101,12 @@ bool answer_next(struct load *load);
 bool answer_read(const struct load *load, uint64_t numbers[MK_ANSWER_NUMBERS]);
 bool answer_prepared(struct load *load, uint32_t *statement);
 bool answer_rows(struct load *load);
+
+/* capture.c: what is there of a capture's bytes; 0 at the end, -1 after it has said what failed. */
+ssize_t read_some(int file, uint8_t *bytes, size_t room);
+
+/* stream.c: the packets of a capture of plain chunks, of any length. */
+bool stream_capture(const struct options *options);
 
 /* queue.c */
 bool queue_add(struct queue *queue, int64_t offset, uint64_t row);

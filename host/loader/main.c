@@ -15,16 +15,21 @@ static const char help[] =
     "                                         the server's bytes of a capture from standard input, with NAME.c2s.bin beside the index\n"
     "  loader [options] --connect HOST:PORT --user U --password-file F --database D --table T [--stored]\n"
     "                                         a running server; a path that has a / in place of HOST:PORT is a unix socket\n"
+    "  loader --stream [--packet K] [--limit N] FILE\n"
+    "                                         a server's bytes as plain chunks, - for standard input: its packets, of any length, and no rows\n"
     "\n"
-    "  --limit N        the longest packet, 1 to 1073741824 bytes (61440)\n"
+    "  --limit N        the longest packet, 1 to 1073741824 bytes (61440; with --stream 1073741824)\n"
     "  --offset NAME    the column of the offset, of type TIME (t0)\n"
     "  --index FILE     a capture's index, if it does not stand beside it\n"
     "  --head N         how many trains are printed, 0 for all (20)\n"
     "  --stored         ask the server for frames (CLIENT_COMPRESS); packed ones are refused\n"
+    "  --stream         read packets straight through a buffer of 4 KiB; the first chunk's number is taken as it stands\n"
+    "  --packet K       with --stream: the payload of packet K, from 1, to standard output as it comes, and the report to standard error\n"
     "  --help, --version\n"
     "\n"
     "A line for each train: offset in microseconds, [-]HH:MM:SS.micros, row number. Trains whose offset is NULL are counted and not\n"
-    "queued. Exit status: 0 all went well; 1 something was refused or could not be read; 2 bad usage.\n";
+    "queued. With --stream a line for each packet: which, its bytes, in how many parts; nothing vouches for a payload unless the exit status is 0.\n"
+    "Exit status: 0 all went well; 1 something was refused or could not be read; 2 bad usage.\n";
 
 static int usage(const char *what, const char *value)
 {
@@ -76,7 +81,7 @@ static bool identifier(const char *name)
     return characters > 0 && at[-1] != ' ';
 }
 
-enum option_code { LIMIT = 1, OFFSET, HEAD, INDEX, CONNECT, USER, PASSWORD_FILE, DATABASE, TABLE, STORED, HELP, VERSION };
+enum option_code { LIMIT = 1, OFFSET, HEAD, INDEX, CONNECT, USER, PASSWORD_FILE, DATABASE, TABLE, STORED, STREAM, PACKET, HELP, VERSION };
 
 static const struct option long_options[] = {{"limit", required_argument, NULL, LIMIT},
                                              {"offset", required_argument, NULL, OFFSET},
@@ -88,6 +93,8 @@ static const struct option long_options[] = {{"limit", required_argument, NULL, 
                                              {"database", required_argument, NULL, DATABASE},
                                              {"table", required_argument, NULL, TABLE},
                                              {"stored", no_argument, NULL, STORED},
+                                             {"stream", no_argument, NULL, STREAM},
+                                             {"packet", required_argument, NULL, PACKET},
                                              {"help", no_argument, NULL, HELP},
                                              {"version", no_argument, NULL, VERSION},
                                              {NULL, 0, NULL, 0}};
@@ -95,6 +102,7 @@ static const struct option long_options[] = {{"limit", required_argument, NULL, 
 static bool take_option(struct options *options, int which, const char *value)
 {
     uint64_t limit = 0;
+    options->rows |= which == OFFSET || which == HEAD || which == INDEX;
     switch (which) {
     case LIMIT:
         if (!parse_number(value, 1, MK_MAX_LIMIT, &limit))
@@ -109,6 +117,8 @@ static bool take_option(struct options *options, int which, const char *value)
     case PASSWORD_FILE: options->password_file = value; return true;
     case DATABASE: options->database = value; return identifier(value);
     case TABLE: options->table = value; return identifier(value);
+    case STREAM: options->stream = true; return true;
+    case PACKET: return parse_number(value, 1, UINT64_MAX, &options->packet);
     default: options->stored = true; return true;
     }
 }
@@ -116,7 +126,11 @@ static bool take_option(struct options *options, int which, const char *value)
 /* Whether the options go together; says what does not. */
 static int check_options(const struct options *options)
 {
+    if (options->packet && !options->stream)
+        return usage("--packet goes with --stream", "");
     if (options->connect) {
+        if (options->stream)
+            return usage("--stream reads a capture, not a server", "");
         if (options->capture || options->index)
             return usage("a capture or a server, not both", "");
         if (!options->user || !options->password_file || !options->database || !options->table)
@@ -127,6 +141,8 @@ static int check_options(const struct options *options)
         return usage("--user, --password-file, --database, --table and --stored go with --connect", "");
     if (!options->capture)
         return usage("which capture?", "");
+    if (options->stream)
+        return options->rows ? usage("--offset, --head and --index are for rows, which --stream does not read", "") : 0;
     if (strcmp(options->capture, "-") == 0 && !options->index)
         return usage("standard input wants --index FILE", "");
     return 0;
@@ -160,6 +176,8 @@ static bool read_options(int count, char **words, struct options *options, int *
         return false;
     }
     options->capture = optind < count ? words[optind] : NULL;
+    if (options->limit == 0)
+        options->limit = options->stream ? MK_MAX_LIMIT : DEFAULT_LIMIT;
     *status = check_options(options);
     return *status == 0;
 }
@@ -172,10 +190,12 @@ static void summary(const struct load *load, double seconds)
 
 int main(int count, char **words)
 {
-    struct options options = {.limit = DEFAULT_LIMIT, .offset = "t0", .head = 20};
+    struct options options = {.offset = "t0", .head = 20};
     int status = 0;
     if (!read_options(count, words, &options, &status))
         return status;
+    if (options.stream)
+        return stream_capture(&options) ? 0 : EXIT_REFUSED;
     struct load *load = calloc(1, sizeof *load);
     if (!load) {
         fail("no memory");

@@ -193,6 +193,70 @@ edit "a framed login" 's/"login", "framed": false/"login", "framed": true/' "fra
 printf x >> "$work/good.s2c.bin"
 run "a byte behind the last exchange" 1 "goes on behind its last exchange" "$work/good.s2c.bin"
 
+# Packets longer than any buffer. A capture of three: 5 bytes, 40 MiB in three chunks, none; the numbers begin at 254.
+python3 - "$work" << 'PYTHON'
+import sys
+M, number = 16777215, 254
+long = b''.join(i.to_bytes(4, 'little') for i in range(40 * 1024 * 1024 // 4))
+with open(sys.argv[1] + '/long', 'wb') as f:
+    f.write(long)
+with open(sys.argv[1] + '/long.bin', 'wb') as f:
+    for packet in b'abcde', long, b'':
+        for at in range(0, len(packet) + 1, M):
+            chunk = packet[at:at + M]
+            f.write(len(chunk).to_bytes(3, 'little') + bytes([number]) + chunk)
+            number = (number + 1) % 256
+PYTHON
+whole=$(size "$work/long.bin")
+run "packets straight through" 0 "3 packets, 41943045 bytes, 10245 parts, in $whole bytes of chunks" --stream "$work/long.bin"
+printed "1\t5\t1\n2\t41943040\t10243\n3\t0\t1\n3 packets, 41943045 bytes, 10245 parts, in $whole bytes of chunks\n"
+run "the long one" 0 "3 packets, 41943045 bytes" --stream --packet 2 "$work/long.bin"
+cmp -s "$work/out" "$work/long" || { echo "loader: another payload"; exit 1; }
+input=$work/long.bin
+run "from standard input" 0 "3 packets, 41943045 bytes" --stream --packet 2 -
+cmp -s "$work/out" "$work/long" || { echo "loader: another payload from standard input"; exit 1; }
+input=
+run "the first" 0 "3 packets" --stream --packet 1 "$work/long.bin"
+printed abcde
+run "none such" 1 "there is no packet 4" --stream --packet 4 "$work/long.bin"
+printed ""
+# Some MiB are enough: of address space, so not under the sanitizers.
+got=0
+(ulimit -v 16384 && exec build/loader --stream --packet 2 "$work/long.bin") 2> "$work/err" | cmp -s - "$work/long" || got=$?
+[ "$got" = 0 ] || { echo "loader: a long packet in 16 MiB of address space:"; cat "$work/err"; exit 1; }
+grep -qF "3 packets" "$work/err" || { echo "loader: no report in 16 MiB of address space"; exit 1; }
+checks=$((checks + 2))
+# The last chunk of the long packet, by where it begins: a wrong number, and one byte missing.
+last=$((9 + 2 * (16777215 + 4)))
+cp "$work/long.bin" "$work/wrong.bin"
+patch wrong.bin $((last + 3)) 07
+run "a number" 1 "refused 3 (out of sync) at byte $last of the server's bytes, packet 2" --stream "$work/wrong.bin"
+printed '1\t5\t1\n'
+run "with a payload" 1 "refused 3 (out of sync) at byte $last of the server's bytes, packet 2" --stream --packet 2 "$work/wrong.bin"
+[ "$(size "$work/out")" = 33554430 ] || { echo "loader: $(size "$work/out") bytes before a wrong number"; exit 1; }
+run "a payload before it" 1 "refused 3 (out of sync)" --stream --packet 1 "$work/wrong.bin"
+printed abcde
+for cut in $((whole - 5)) $((last + 2)) $((last + 4)) 9 1; do
+    head -c "$cut" "$work/long.bin" > "$work/cut.bin"
+    case $cut in
+    1) run "a cut end" 1 "refused 8 (short) at byte 1 of the server's bytes, packet 1" --stream --packet 1 "$work/cut.bin" ;;
+    9) run "an end between packets" 0 "1 packets, 5 bytes, 1 parts, in 9 bytes of chunks" --stream "$work/cut.bin" ;;
+    *) run "a cut end" 1 "refused 8 (short) at byte $cut of the server's bytes, packet 2" --stream --packet 2 "$work/cut.bin" ;;
+    esac
+done
+run "a limit" 1 "refused 2 (too large) at byte 9 of the server's bytes, packet 2" --stream --limit 1000 "$work/long.bin"
+# A header across two pieces of 4 KiB: the place is where it begins.
+{ chunk 00; python3 -c "import sys; sys.stdout.buffer.write((4082).to_bytes(3, 'little') + b'\1' + bytes(4082))"; chunk 03; } > "$work/across.bin"
+run "a header across two pieces" 1 "refused 3 (out of sync) at byte 4090 of the server's bytes, packet 3" --stream "$work/across.bin"
+: > "$work/empty.bin"
+run "an empty capture" 0 "0 packets, 0 bytes, 0 parts, in 0 bytes of chunks" --stream "$work/empty.bin"
+run "no such file" 1 "can't be opened" --stream "$work/none.bin"
+run "packet 0" 2 "--packet can't be '0'" --stream --packet 0 x
+run "a packet of rows" 2 "--packet goes with --stream" --packet 1 x
+run "rows of a stream" 2 "for rows" --stream --head 3 x
+run "a server's stream" 2 "not a server" --stream --connect localhost:1
+rm "$work"/long* "$work/wrong.bin" "$work/cut.bin"
+
 run "no capture" 2 "which capture" --head 3
 run "no index" 2 "wants --index" -
 run "a limit of 0" 2 "--limit can't be '0'" --limit 0 x

@@ -1,17 +1,20 @@
 -- A line worked out by computing: ABCDEFG and ABC in pieces of three from number 254 on, five chunks.
 use Prim.Native.Nat.{ℕ}
 use mathlib.Core.Path.{_≡_, refl}
+use mathlib.Core.Bool.{false}
 use mathlib.Core.List.{List, [], _∷_, flatten}
 use lib.ListN.{replicate}
 use Rattle.wire.specs.Le.{leOf, leBytes}
 use Rattle.chunk.specs.Chunks.{next, chunk, cut, pieces, numbered, chunksOf, after}
 use Rattle.chunk.specs.Read.{idle, took, chunkAt, headed, turnFrom, turnOf, turns, opened, read}
 use Rattle.chunk.specs.declared.PlainPacketCodec.{PlainPacketCodec}
+use Rattle.stream.specs.Stream as S
 use Rattle.line.specs.Host.{handed, refusal, Habit, callsUpTo, calls, serve}
 use Rattle.line.specs.Arrivals.{arrived}
 use Rattle.line.specs.Written.{written, writer, complete, begun}
 use Rattle.line.specs.Line.{refusalOf}
 use Rattle.line.specs.Code.{plainEnd}
+use Rattle.line.specs.Straight.{Watched, passes, watch}
 
 abbrev abcdefg : List ℕ
 abcdefg = 0x41 ∷ 0x42 ∷ 0x43 ∷ 0x44 ∷ 0x45 ∷ 0x46 ∷ 0x47 ∷ []
@@ -92,3 +95,31 @@ a-byte-over = (refl, refl)
 pub comes-again : serves [] (arrived (written 3 254 (replicate 257 [])) (256 ∷ []) ∷ []) .events ≡ handed [] ∷ []
 unfolding written writer complete begun arrived chunksOf numbered pieces cut after chunk leBytes next flatten serve calls callsUpTo read opened turns turnOf turnFrom headed chunkAt took leOf
 comes-again = refl
+
+-- ---- straight through
+
+abbrev watches : List (List ℕ) → Watched
+watches cs = watch (S.pass 3) (S.idle 8 254) [] cs
+
+-- both packets byte by byte, cut inside headers and payload alike, with the parts of ABCDEFG joined
+pub straight-all : watches (singles (arrived (written 3 254 both) (0 ∷ 1 ∷ 2 ∷ 3 ∷ 4 ∷ [])))
+    ≡ record { events = handed abcdefg ∷ handed abc ∷ []; refusing = false; sofar = []; state = S.idle 8 3 }
+unfolding written arrived chunksOf numbered pieces cut after chunk leBytes next watch passes S.pass S.header S.headed S.numbered S.payload leOf
+straight-all = refl
+
+-- 3 at the header, where the waiting reader sees nothing a byte before the chunk is complete (`a-byte-early`)
+pub straight-sooner : watches ((3 ∷ 0 ∷ []) ∷ (0 ∷ 255 ∷ []) ∷ (0x44 ∷ []) ∷ []) .events ≡ refusal 3 ∷ []
+unfolding watch passes S.pass S.header S.headed S.numbered S.payload next leOf
+straight-sooner = refl
+
+-- a header that is too large and has a wrong number: 2, as the waiting reader
+pub straight-large :
+    (watches ((9 ∷ 0 ∷ 0 ∷ 255 ∷ []) ∷ []) .events ≡ refusal 2 ∷ [])
+    × (serves [] ((9 ∷ 0 ∷ 0 ∷ 255 ∷ []) ∷ []) .events ≡ refusal 2 ∷ [])
+unfolding watch passes S.pass S.header S.headed leOf serve calls callsUpTo read opened turns turnOf turnFrom headed
+straight-large = (refl, refl)
+
+-- the packet has not ended: its bytes are there, and nothing vouches for them
+pub straight-so-far : watches ((3 ∷ 0 ∷ 0 ∷ 254 ∷ 0x41 ∷ 0x42 ∷ 0x43 ∷ 2 ∷ 0 ∷ 0 ∷ 255 ∷ 0x44 ∷ []) ∷ []) .sofar ≡ 0x41 ∷ 0x42 ∷ 0x43 ∷ 0x44 ∷ []
+unfolding watch passes S.pass S.header S.headed S.numbered S.payload next leOf
+straight-so-far = refl

@@ -8,3 +8,8 @@ pub mod Sense
 pub mod Some
 pub mod Seen
 pub mod Codec
+pub mod Passes
+pub mod Cuts
+pub mod Same
+pub mod Straight
+pub mod StraightLine

@@ -91,7 +91,7 @@ arrived-from cs o (suc i) (y ∷ a) hi ho h =
 pub arrived-in-place : (cs : List (List ℕ)) (i : ℕ) (a : List ℕ) → i ≤ length a → i ≤ length cs → ((j : ℕ) → j < i → getD a j 0 ≡ j) → arrived cs (take i a) ≡ flatten (take i cs)
 arrived-in-place cs i a hi ho h = arrived-from cs 0 i a hi (omega arith) (λ j hj. h j hj ∙ omega arith)
 
-reach : (n : ℕ) (a : List ℕ) (w : ℕ) → n ≤ length a → ((j : ℕ) → j < n → getD a j 0 ≡ j) → ((j : ℕ) → j < length a → getD a j 0 < w) → n ≤ w
+pub reach : (n : ℕ) (a : List ℕ) (w : ℕ) → n ≤ length a → ((j : ℕ) → j < n → getD a j 0 ≡ j) → ((j : ℕ) → j < length a → getD a j 0 < w) → n ≤ w
 reach zero a w hn h real = omega arith
 reach (suc n) a w hn h real = omega (arith, h n (omega arith), real n (omega arith))
 
@@ -116,22 +116,42 @@ module _ (m : ℕ) (pos : 0 < m) (fits : m ≤ largest) (k l : ℕ) (b : List �
   data Served (h : Host PlainPacketCodec) (es : List Event) (k′ : ℕ) : Type 0 where
     served : h .events ≡ es → h .state .number ≡ k′ → Served h es k′
 
-  served-by : (es : List Event) (k′ : ℕ) (cs : List (List ℕ)) (u : List ℕ) → flatten cs ≡ u → refusing es ≡ false
-      → (t : ℕ) → Comes m habit l 0 (idle l k) u b es k′ t [] → Served (serve r habit 0 (idle l k) [] b cs) es k′
-  served-by es k′ cs u e q t (comes n′ b′ h c) =
-      let all : calls r habit 0 (idle l k) (flatten cs) b ≡ record { events = es; packets = n′; state = within l k′ t; unread = []; buffer = b′ } =
-      rw e (c ∙ rw (calls-none m habit n′ l k′ t b′, append-nil es)) in
-      let s = serve-waits r habit (steady m) 0 (idle l k) [] b cs (calls-none m habit 0 l k 0 b) (rw all q) ∙ all in
+  -- the host on all the bytes at once, none out of place: nothing is left unread
+  pub data Wholly (u : List ℕ) : Type 0 where
+    wholly : (n′ t : ℕ) (b′ : List ℕ)
+        → calls r habit 0 (idle l k) u b
+        ≡ record {
+          events = map handed (complete m ps (length a));
+          packets = n′;
+          state = within l ((k + length a) % 256) t;
+          unread = [];
+          buffer = b′;
+        }
+        → Wholly u
+
+  wholly-by : (u : List ℕ) (t : ℕ) → Comes m habit l 0 (idle l k) u b (map handed (complete m ps (length a))) ((k + length a) % 256) t [] → Wholly u
+  wholly-by u t (comes n′ b′ h c) =
+      wholly n′ t b′ (c ∙ rw (calls-none m habit n′ l ((k + length a) % 256) t b′, append-nil (map handed (complete m ps (length a)))))
+
+  pub all-in-place : InPlace a → Wholly (arrived W a)
+  all-in-place h =
+      let hn : length a ≤ length W = reach (length a) a (length W) (omega arith) h (G .real) in
+      let e : arrived W a ≡ flatten (take (length a) W) ++ [] =
+      ap (arrived W) (sym (take-length a)) ∙ arrived-in-place W (length a) a (omega arith) hn h ∙ sym (append-nil (flatten (take (length a) W))) in
+      rw e
+      (wholly-by (flatten (take (length a) W) ++ []) (begun m ps (length a))
+      (stream m habit pos fits l (G .acts) (G .lent) k ps (length a) 0 [] b (G .start) (G .fit) (G .room) hn))
+
+  served-by : (cs : List (List ℕ)) (u : List ℕ) → flatten cs ≡ u → Wholly u
+      → Served (serve r habit 0 (idle l k) [] b cs) (map handed (complete m ps (length a))) ((k + length a) % 256)
+  served-by cs u e (wholly n′ t b′ c) =
+      let all = rw (← e) at c in
+      let s = serve-waits r habit (steady m) 0 (idle l k) [] b cs (calls-none m habit 0 l k 0 b) (rw all (quiet (complete m ps (length a)))) ∙ all in
       served (rw s) (rw s)
 
   in-place : InPlace a → (cs : List (List ℕ)) → flatten cs ≡ arrived W a
       → Served (serve r habit 0 (idle l k) [] b cs) (map handed (complete m ps (length a))) ((k + length a) % 256)
-  in-place h cs e =
-      let hn : length a ≤ length W = reach (length a) a (length W) (omega arith) h (G .real) in
-      served-by (map handed (complete m ps (length a))) ((k + length a) % 256) cs (flatten (take (length a) W) ++ [])
-      (e ∙ ap (arrived W) (sym (take-length a)) ∙ arrived-in-place W (length a) a (omega arith) hn h ∙ sym (append-nil (flatten (take (length a) W))))
-      (quiet (complete m ps (length a))) (begun m ps (length a))
-      (stream m habit pos fits l (G .acts) (G .lent) k ps (length a) 0 [] b (G .start) (G .fit) (G .room) hn)
+  in-place h cs e = served-by cs (arrived W a) e (all-in-place h)
 
   abbrev Refused : Host PlainPacketCodec → List Event → ℕ → Type 0
   Refused h es c = (n : ℕ) × (h .events ≡ es ++ (refusal c ∷ replicate n (refusal 7)))

@@ -4,3 +4,4 @@ pub mod Arrivals
 pub mod Written
 pub mod Line
 pub mod Code
+pub mod Straight

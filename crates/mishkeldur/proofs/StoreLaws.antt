@@ -17,7 +17,7 @@ use Rattle.mishkeldur.specs.Face.{flagNo}
 use Rattle.mishkeldur.specs.State.{mark, codecOf, stateBytes, keeping}
 use Rattle.mishkeldur.proofs.FaceLaws.{flag-no}
 
-unmarked : (b : Bool) → not b ≡ cond b false true
+pub unmarked : (b : Bool) → not b ≡ cond b false true
 unmarked true = refl
 unmarked false = refl
 
@@ -41,7 +41,7 @@ unfolding codecOf
 loaded s e f g h i = rw (e, f, g, h, i, unmarked (eqb (getD s 0 0) mark)) refl
 
 -- eight bytes more
-further : (s bs : List ℕ) (n v : ℕ) {l l′ : List ℕ} → length bs ≡ n → n + 8 ≤ length s → l ≡ patch s 0 bs → l′ ≡ patch l n (leBytes 8 v)
+pub further : (s bs : List ℕ) (n v : ℕ) {l l′ : List ℕ} → length bs ≡ n → n + 8 ≤ length s → l ≡ patch s 0 bs → l′ ≡ patch l n (leBytes 8 v)
     → l′ ≡ patch s 0 (bs ++ leBytes 8 v)
 further s bs n v {l} {l′} e h p q =
     let m : 0 + length bs ≡ n = omega (arith, e) in

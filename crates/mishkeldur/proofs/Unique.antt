@@ -17,6 +17,7 @@ use Rattle.mishkeldur.specs.Answers.{answerNumbers, listed, PutsErr}
 use Rattle.mishkeldur.specs.Face.{status, holds, flag, flagNo, Puts}
 use Rattle.mishkeldur.specs.Literals.{Judges}
 use Rattle.mishkeldur.specs.State.{short, codecOf, readBy, Opens, Changes, Reads, Writes, Looks}
+use Rattle.mishkeldur.specs.Streams.{OpensStream, Renumbers, Passes}
 
 -- ---- entries whose contract says outright what the status, a number or a list is: `mk_state_size`, `mk_lenenc_int_len`, the starts
 -- of `mk_read_row` and `mk_read_params`
@@ -151,3 +152,27 @@ pub puts-err-unique : {code : ℕ} {state message d : List ℕ} {at old r q : �
     → PutsErr code state message d at old r d₁ n₁ → PutsErr code state message d at old q d₂ n₂
     → (r ≡ q) × (d₁ ≡ d₂) × (n₁ ≡ n₂)
 puts-err-unique v w = (v .status ∙ sym (w .status), v .left ∙ sym (w .left), v .next ∙ sym (w .next))
+
+-- ---- packets longer than any buffer
+
+-- `mk_stream_open`
+pub opens-stream-unique : {s : List ℕ} {limit r q : ℕ} {s₁ s₂ : List ℕ} → OpensStream s limit r s₁ → OpensStream s limit q s₂
+    → (r ≡ q) × (s₁ ≡ s₂)
+opens-stream-unique v w = (v .status ∙ sym (w .status), v .state ∙ sym (w .state))
+
+-- `mk_stream_seq_id`
+pub renumbers-unique : {s : List ℕ} {k r q : ℕ} {s₁ s₂ : List ℕ} → Renumbers s k r s₁ → Renumbers s k q s₂ → (r ≡ q) × (s₁ ≡ s₂)
+renumbers-unique v w = (v .status ∙ sym (w .status), v .state ∙ sym (w .state))
+
+-- `mk_stream_read`
+pub passes-unique : {s u : List ℕ} {a n e r q : ℕ} {s₁ s₂ : List ℕ} {used₁ place₁ len₁ ends₁ used₂ place₂ len₂ ends₂ : ℕ}
+    → Passes s u a n e r s₁ used₁ place₁ len₁ ends₁ → Passes s u a n e q s₂ used₂ place₂ len₂ ends₂
+    → (r ≡ q) × (s₁ ≡ s₂) × (used₁ ≡ used₂) × (place₁ ≡ place₂) × (len₁ ≡ len₂) × (ends₁ ≡ ends₂)
+passes-unique v w = (
+  v .status ∙ sym (w .status),
+  v .state ∙ sym (w .state),
+  v .used ∙ sym (w .used),
+  v .place ∙ sym (w .place),
+  v .len ∙ sym (w .len),
+  v .ends ∙ sym (w .ends),
+)

@@ -5,3 +5,5 @@ pub mod Whole
 pub mod Values
 pub mod Literals
 pub mod Answers
+pub mod Streams
+pub mod StreamsLaws

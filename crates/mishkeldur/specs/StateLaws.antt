@@ -23,7 +23,7 @@ unfolding codecOf
 foreign-is-closed s n = simp (ne-eqb (getD s 0 0) mark n)
 
 -- a flag and the mark come back
-flag-back : (b : Bool) → eqb (cond b 1 0) 1 ≡ b
+pub flag-back : (b : Bool) → eqb (cond b 1 0) 1 ≡ b
 flag-back true = refl
 flag-back false = refl
 
@@ -31,8 +31,8 @@ mark-back : (b : Bool) → cond (eqb (cond b 0 mark) mark) false true ≡ b
 mark-back true = refl
 mark-back false = refl
 
--- the five counts lie one behind the other
-eight : (v : ℕ) → v < 2 ^ 64 → leOf (leBytes 8 v) ≡ v
+-- a count comes back out of its eight bytes
+pub eight : (v : ℕ) → v < 2 ^ 64 → leOf (leBytes 8 v) ≡ v
 eight v h = le-back 8 v h
 
 pub back : (s : List ℕ) (c : PacketCodec) → c .limit < 2 ^ 64 → c .taken < 2 ^ 64 → c .len < 2 ^ 64 → c .unread < 2 ^ 64 → c .size < 2 ^ 64

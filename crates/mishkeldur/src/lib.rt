@@ -1,8 +1,8 @@
 // The loader's face: the entries for C, on numbers and byte slices. Each is a thin layer over one proved function of a room.
 //
 // A `&[u8]` is a pointer and a length to C. An entry answers a status, 0 for done, the number of a refusal, or 255 for "need
-// more", and writes what it gives to lent numbers, which a refusal leaves untouched (but the bytes used by `mk_read`, which are
-// written on every answer). The header host/include/mishkeldur.h says it all to a C programmer.
+// more", and writes what it gives to lent numbers, which a refusal leaves untouched (but the bytes used by `mk_read` and
+// `mk_stream_read`, which are written on every answer). The header host/include/mishkeldur.h says it all to a C programmer.
 //
 // The codec of a connection lives in a byte slice of `mk_state_size()` bytes that the caller keeps. Any content is some codec: one
 // that no opening has made is most likely a closed one, and never anything worse.
@@ -31,13 +31,14 @@ mod literals;
 mod packing;
 mod records;
 mod state;
+mod streams;
 mod values;
 
 // How many bytes a state is lent in.
 const STATE_SIZE: usize = 128;
 
 // "Need more" as a status.
-const NEED_MORE: u8 = 255;
+pub(crate) const NEED_MORE: u8 = 255;
 
 // A flag from C: 0 is no, any other number is yes.
 pub(crate) fn flag(n: u8) -> bool

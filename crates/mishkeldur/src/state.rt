@@ -24,7 +24,7 @@ fn mark_of(closed: bool) -> u8
 }
 
 // A count as eight bytes. Most calls change none of the counts, and what stands there already is not written again.
-fn put_count(state: &mut [u8], at: usize, v: u64)
+pub(crate) fn put_count(state: &mut [u8], at: usize, v: u64)
     requires { ⌜ at + 8 ≤ length (now state) ⌝ }
     ensures { λ _. ⌜ now (state .exit) ≡ patch (now (state .entry)) at (leBytes 8 v) ⌝ }
 {

@@ -14,6 +14,8 @@ use std::{hint::black_box, process::ExitCode};
 const PIECE: usize = 64 * 1024;
 #[cfg(packets)]
 const STATE: usize = 128;
+#[cfg(packets)]
+const STREAM: usize = 64;
 
 /// A side of a comparison: one timed run, in nanoseconds for each item.
 type Side<'a> = Option<Box<dyn FnMut() -> f64 + 'a>>;
@@ -154,12 +156,17 @@ impl Buffers {
     }
 }
 
+/// How many packets of n bytes are read in a turn.
+fn packets_of(n: usize) -> usize {
+    let count = (2 << 20) / (n + 11) + 1;
+    let count = if n >= 60_000 { count.max(32) } else { count };
+    if n > 1 << 20 { 1 } else { count }
+}
+
 fn reading(n: usize, framing: Framing, runs: usize) -> Row {
     let limit = if n > 1 << 20 { n } else { 1 << 20 };
     let framed = framing != Framing::Plain;
-    let count = (2 << 20) / (n + 11) + 1;
-    let count = if n >= 60_000 { count.max(32) } else { count };
-    let count = if n > 1 << 20 { 1 } else { count };
+    let count = packets_of(n);
     // In many frames of one packet the plain numbers of two ends part: the corner that the rules name. One packet is read then.
     let bytes = wire(n, count, limit, framing);
     let turns = if n > 1 << 20 { 1 } else { 4 };
@@ -209,8 +216,21 @@ fn reading(n: usize, framing: Framing, runs: usize) -> Row {
     let rust: Side = Some(Box::new(original(&bytes, n, limit, framed, turns, count, false)));
     let copied: Side = Some(Box::new(original(&bytes, n, limit, framed, turns, count, true)));
 
+    let c: Side = Some(Box::new(plain_c(&bytes, limit, framed, turns, count)));
+    let [ours, rust, c, copied] = measure(runs, &mut [ours, rust, c, copied]);
+    let how = match framing {
+        Framing::Plain => "plain reading",
+        Framing::Each => "framed reading, own frames",
+        Framing::Bundled => "framed reading, frames of 16,384",
+    };
+    let note = format!("Rust with its pieces copied in {}", time(copied));
+    Row { name: format!("{how}, {} bytes", grouped(n)), unit: "packet", ours, rust, c, note }
+}
+
+/// The reader of plain.c.
+fn plain_c(bytes: &[u8], limit: usize, framed: bool, turns: usize, count: usize) -> impl FnMut() -> f64 {
     let mut theirs = Buffers::new(limit, framed);
-    let c: Side = Some(Box::new(|| {
+    move || {
         let mut state = [0u64; 16];
         let s = state.as_mut_ptr().cast::<u8>();
         let start = Instant::now();
@@ -221,7 +241,7 @@ fn reading(n: usize, framing: Framing, runs: usize) -> Row {
                     pc_frames_on(s);
                 }
             }
-            check(pump(&bytes, |src, used| {
+            let got = pump(bytes, |src, used| {
                 let mut len = 0;
                 let no = unsafe {
                     pc_read(
@@ -238,18 +258,66 @@ fn reading(n: usize, framing: Framing, runs: usize) -> Row {
                 };
                 black_box(&theirs.packet);
                 no == 0
-            }));
+            });
+            assert_eq!(got, count, "packets read");
         }
-        per(start, items)
-    }));
-    let [ours, rust, c, copied] = measure(runs, &mut [ours, rust, c, copied]);
-    let how = match framing {
-        Framing::Plain => "plain reading",
-        Framing::Each => "framed reading, own frames",
-        Framing::Bundled => "framed reading, frames of 16,384",
+        per(start, turns * count)
+    }
+}
+
+/// The straight-through reader on the same bytes in the same pieces, beside the plain reading of the others. It copies nothing; the last
+/// column has it with each part copied to where its packet stands, for who wants it there.
+fn through(n: usize, runs: usize) -> Row {
+    let limit = if n > 1 << 20 { n } else { 1 << 20 };
+    let count = packets_of(n);
+    let bytes = wire(n, count, limit, Framing::Plain);
+    let turns = if n > 1 << 20 { 1 } else { 4 };
+    #[cfg(packets)]
+    let side = |joined: bool| -> Side {
+        let mut packet = vec![1u8; limit];
+        let bytes = &bytes;
+        Some(Box::new(move || {
+            let mut state = [0u8; STREAM];
+            let start = Instant::now();
+            for _ in 0..turns {
+                let (mut got, mut sofar) = (0, 0);
+                unsafe { mk_stream_open(state.as_mut_ptr(), STREAM, limit) };
+                for piece in bytes.chunks(PIECE) {
+                    let mut at = 0;
+                    while at < piece.len() {
+                        let (src, mut used, mut place, mut len, mut ends) = (&piece[at..], 0, 0, 0, 0);
+                        let no = unsafe {
+                            mk_stream_read(state.as_mut_ptr(), STREAM, src.as_ptr(), src.len(), &mut used, &mut place, &mut len, &mut ends)
+                        };
+                        at += used;
+                        if no != 0 {
+                            assert_eq!(no, 255, "no refusal");
+                            continue;
+                        }
+                        let part = black_box(&src[place..place + len]);
+                        if joined {
+                            packet[sofar..sofar + len].copy_from_slice(part);
+                        }
+                        sofar += len;
+                        if ends == 1 {
+                            assert_eq!(sofar, n, "bytes of a packet");
+                            black_box(&packet);
+                            (got, sofar) = (got + 1, 0);
+                        }
+                    }
+                }
+                assert_eq!(got, count, "packets read");
+            }
+            per(start, turns * count)
+        }))
     };
-    let note = format!("Rust with its pieces copied in {}", time(copied));
-    Row { name: format!("{how}, {} bytes", grouped(n)), unit: "packet", ours, rust, c, note }
+    #[cfg(not(packets))]
+    let side = |_: bool| -> Side { None };
+    let rust: Side = Some(Box::new(original(&bytes, n, limit, false, turns, count, false)));
+    let c: Side = Some(Box::new(plain_c(&bytes, limit, false, turns, count)));
+    let [ours, rust, c, joined] = measure(runs, &mut [side(false), rust, c, side(true)]);
+    let note = format!("ours with its parts copied together {}; Rust and C: plain reading", time(joined));
+    Row { name: format!("straight through, {} bytes", grouped(n)), unit: "packet", ours, rust, c, note }
 }
 
 /// The original's reader. All bytes lie in one BytesMut, and a piece that comes in is joined to the unread rest without a copy; or,
@@ -841,6 +909,7 @@ fn main() -> ExitCode {
     if wants("packets") {
         let sizes = [20, 200, 1_000, 60_000, big];
         rows.extend(sizes.iter().map(|n| reading(*n, Framing::Plain, runs)));
+        rows.extend(sizes.iter().map(|n| through(*n, runs)));
         rows.extend(sizes.iter().map(|n| writing(*n, false, runs)));
         rows.extend(sizes.iter().map(|n| reading(*n, Framing::Each, runs)));
         rows.extend(sizes[..4].iter().map(|n| reading(*n, Framing::Bundled, runs)));

@@ -60,6 +60,11 @@ unsafe extern "C" {
     pub fn mk_write(
         state: *mut u8, state_len: usize, packet: *const u8, packet_len: usize, dst: *mut u8, dst_len: usize, written: *mut usize,
     ) -> u8;
+    pub fn mk_stream_open(state: *mut u8, state_len: usize, limit: usize) -> u8;
+    pub fn mk_stream_read(
+        state: *mut u8, state_len: usize, src: *const u8, src_len: usize, used: *mut usize, place: *mut usize, len: *mut usize,
+        ends: *mut u8,
+    ) -> u8;
 }
 
 pub const STATE_SIZE: usize = 128;

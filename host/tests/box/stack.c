@@ -12,7 +12,7 @@
 enum { ROOM = 1 << 16, PAINT = 0xD7, BUDGET = 2048 };
 
 static uint8_t stack[ROOM] __attribute__((aligned(64)));
-static uint8_t state[MK_STATE_SIZE], framed[MK_STATE_SIZE], wire[300], wire_framed[300], staging[400], packet[200], out[600];
+static uint8_t state[MK_STATE_SIZE], framed[MK_STATE_SIZE], stream[MK_STREAM_SIZE], wire[300], wire_framed[300], staging[400], packet[200], out[600];
 static size_t a, b, c, d, e, list[16];
 static uint64_t u;
 static int64_t z;
@@ -45,6 +45,9 @@ ENTRY(read_plain, mk_read(state, sizeof state, wire, wire_len, NULL, 0, packet, 
 ENTRY(read_framed, mk_read(framed, sizeof framed, wire_framed, wire_framed_len, staging, sizeof staging, packet, sizeof packet, &a, &b))
 ENTRY(write_plain, mk_write(state, sizeof state, packet, 120, out, sizeof out, &a))
 ENTRY(write_framed, mk_write(framed, sizeof framed, packet, 150, out, sizeof out, &a))
+ENTRY(stream_open, mk_stream_open(stream, sizeof stream, 150))
+ENTRY(stream_seq_id, mk_stream_seq_id(stream, sizeof stream, 3))
+ENTRY(stream_read, mk_stream_read(stream, sizeof stream, wire, wire_len, &a, &b, &c, &k))
 ENTRY(lenenc_int, mk_lenenc_int(row, sizeof row, 3, &u, &a))
 ENTRY(lenenc_str, mk_lenenc_str(row, sizeof row, 44, &a, &b))
 ENTRY(lenenc_len, mk_lenenc_int_len(70000))
@@ -91,6 +94,7 @@ static const struct {
 } entries[] = {
     {"(nothing: the caller alone)", nothing}, {"mk_open", open_}, {"mk_frames_on", frames_on}, {"mk_reset_seq_id", reset}, {"mk_sync_seq_id", sync_},
     {"mk_look", look}, {"mk_read, plain", read_plain}, {"mk_read, framed", read_framed}, {"mk_write, plain", write_plain}, {"mk_write, framed", write_framed},
+    {"mk_stream_open", stream_open}, {"mk_stream_seq_id", stream_seq_id}, {"mk_stream_read", stream_read},
     {"mk_lenenc_int", lenenc_int}, {"mk_lenenc_str", lenenc_str}, {"mk_lenenc_int_len", lenenc_len}, {"mk_put_lenenc_int", put_int_}, {"mk_put_lenenc_str", put_str},
     {"mk_read_time", time_}, {"mk_read_duration", duration}, {"mk_duration_of", duration_of}, {"mk_read_value, integer", value_}, {"mk_read_value, date", value_date},
     {"mk_read_text", text}, {"mk_read_date", date}, {"mk_put_int", put_int}, {"mk_put_uint", put_uint}, {"mk_put_float", put_float}, {"mk_put_double", put_double},
@@ -126,7 +130,7 @@ int main(void)
         uint8_t st[MK_STATE_SIZE];
         fresh(st, 0), mk_write(st, sizeof st, packet, 100, wire, sizeof wire, &wire_len);
         fresh(st, 1), mk_write(st, sizeof st, packet, 150, wire_framed, sizeof wire_framed, &written), wire_framed_len = written;
-        fresh(state, 0), fresh(framed, 1);
+        fresh(state, 0), fresh(framed, 1), mk_stream_open(stream, sizeof stream, 150);
         size_t n = used_by(entries[i].call);
         printf("%6zu  %s\n", n, entries[i].name);
         if (n > deepest) deepest = n, which = entries[i].name;

@@ -98,6 +98,40 @@ static void connection(input in, bool foreign)
     }
 }
 
+/* A stream: opened, or with the bytes of the input as its state; then the rest in pieces, each to its end or to a refusal, with numbers between. */
+static void through(input in, bool foreign)
+{
+    uint8_t *st = last(state, MK_STREAM_SIZE), habit = take(&in), limit = take(&in);
+    if (foreign) {
+        for (size_t i = 0; i < MK_STREAM_SIZE; i++) st[i] = take(&in);
+        if (habit & 1) st[0] = 0x53, st[1] = 0;
+    } else {
+        PROMISE(mk_stream_open(st, MK_STREAM_SIZE, 1 + (size_t)limit) == MK_OK);
+    }
+    size_t step = habit & 4 ? 1 + habit / 8 : MOST, sofar = 0;
+    const uint8_t *src = lend_rest(&in);
+    for (size_t from = 0, to = 0; to < in.len;) {
+        to = in.len - to < step ? in.len : to + step;
+        while (from < to) {
+            size_t used = STALE, place = STALE, len = STALE;
+            uint8_t ends = 7, r = mk_stream_read(st, MK_STREAM_SIZE, src + from, to - from, &used, &place, &len, &ends);
+            note(r);
+            PROMISE(r == MK_OK || (place == STALE && len == STALE && ends == 7));
+            if (r != MK_OK && r != MK_NEED_MORE) {
+                PROMISE(used == 0 && mk_stream_read(st, MK_STREAM_SIZE, src, in.len, &used, &place, &len, &ends) == MK_CLOSED);
+                return;
+            }
+            PROMISE(used > 0 && used <= to - from);
+            PROMISE(r == MK_OK ? ends <= 1 && place <= used && len == used - place : used == to - from);
+            sofar = r == MK_OK ? sofar + len : sofar;
+            PROMISE(foreign || sofar <= 1 + (size_t)limit);
+            if (r == MK_OK && ends) sofar = 0;
+            from += used;
+            if (habit & 2) PROMISE(mk_stream_seq_id(st, MK_STREAM_SIZE, src[0]) == MK_OK);
+        }
+    }
+}
+
 /* A packet written and read back is the packet, with frames or without. */
 static void round_trip(input in)
 {
@@ -234,7 +268,7 @@ int LLVMFuzzerTestOneInput(const uint8_t *data, size_t size)
     switch (which & 7) {
     case 0: case 1: case 2: connection(in, false); break;
     case 3: connection(in, true); break;
-    case 4: round_trip(in); break;
+    case 4: which & 8 ? through(in, which & 16) : round_trip(in); break;
     case 5: which & 16 ? answer(in) : which & 8 ? salvage(in) : quoting(in); break;
     default: values(in, which >> 3); break;
     }
