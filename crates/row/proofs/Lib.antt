@@ -1,4 +1,5 @@
 pub mod BitLaws
+pub mod StepLaws
 pub mod WalkLaws
 pub mod EndLaws
 pub mod Unique

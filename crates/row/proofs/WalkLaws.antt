@@ -2,30 +2,63 @@
 use mathlib.Core.Path.{_≡_, refl, sym, ap, _∙_}
 use mathlib.Core.Bool.{Bool, true, false, cond}
 use mathlib.Core.List.{List, [], _∷_, _++_}
-use Prim.Native.Nat.{ℕ, zero, suc, _+_, _-_, _≤_, _<_}
+use Prim.Native.Nat.{ℕ, zero, suc, _+_, _-_, _*_, _≤_, _<_}
 use native.Mathlib.Omega.{arith}
-use native.Mathlib.Nat.{zero-add, sub-zero}
+use native.Mathlib.Nat.{add-zero, zero-add, sub-zero, mul-zero, mul-one}
+use native.Mathlib.Decide.{ℕ-discrete}
 use native.Mathlib.Numerals.{add-one}
 use lib.ListN.{length, getD, take, drop, set}
 use lib.Seq.{sets, sets-eq}
 use lib.Dec.{eqb}
+use borrow.Author.Tests.{eq-eqb, ne-eqb, le-leb}
 use Rattle.refusal.specs.Said.{Said, gives, refused}
 use Rattle.refusal.specs.Number.{number}
 use Rattle.refusal.specs.declared.Refusal.{Refusal}
-use Rattle.value.specs.Read.{skipAt, endSaid}
+use Rattle.wire.specs.LenEnc.{within}
+use Rattle.value.specs.Kinds.{kindOf}
+use Rattle.value.specs.Read.{skipAt, endIn, endSaid}
+use Rattle.value.specs.Steps.{stepOf, ledBody, skip-fixed, skip-led}
 use Rattle.value.specs.declared.End.{End}
 use Rattle.value.specs.declared.End.the-variants as E
 use Rattle.row.specs.Nulls.{nullBit}
 use Rattle.row.specs.Walk.{Walk, colAt, onward, walk, over, Passed}
+use Rattle.row.specs.RowLaws.{bit-few, col-within}
+
+-- all of a step or nothing
+pub all-or-none : (step there : ℕ) → step ≤ 8 → there ≤ 1 → step * there ≤ 8
+all-or-none step there l h = elim (ℕ-discrete there 0) [
+  | yes z ↦ rw (z, mul-zero) (omega arith)
+  | no n ↦ let one : there ≡ 1 = omega (arith, n) in rw (one, mul-one) l
+]
 
 module _ (s map : List ℕ) (off : ℕ) (ts : List ℕ) where
-  pub col-null : (i at : ℕ) (b : Bool) → b ≡ eqb (nullBit map off i) 1 → b ≡ true → gives at ≡ colAt s map off ts i at
-  unfolding colAt
-  col-null i at b e t = simp (sym e ∙ t)
+  -- a column by its step, and by whether it has a value
+  module _ (i at there step : ℕ) (h : there ≡ 1 - nullBit map off i) (e : step ≡ stepOf (kindOf (getD ts i 0))) where
+    pub col-null : there ≡ 0 → gives at ≡ colAt s map off ts i at
+    unfolding colAt
+    col-null z = simp (eq-eqb (nullBit map off i) 1 (omega (arith, bit-few map off i)))
 
-  pub col-value : (i at : ℕ) (b : Bool) → b ≡ eqb (nullBit map off i) 1 → b ≡ false → (x : Said ℕ) → x ≡ skipAt s at (getD ts i 0) → x ≡ colAt s map off ts i at
-  unfolding colAt
-  col-value i at b e t x q = simp (sym e ∙ t) q
+    col-value : (there ≡ 0 → ⊥) → skipAt s at (getD ts i 0) ≡ colAt s map off ts i at
+    unfolding colAt
+    col-value n = simp (ne-eqb (nullBit map off i) 1 (λ o. n (omega (arith, o))))
+
+    pub col-led : (there ≡ 0 → ⊥) → 8 < step → (x : Said ℕ) → x ≡ endIn (ledBody step s at) → x ≡ colAt s map off ts i at
+    col-led n l x q = q ∙ sym (skip-led s at (getD ts i 0) step e l) ∙ col-value n
+
+    pub col-fixed : at ≤ length s → step ≤ 8 → (x : Said ℕ) → x ≡ endIn (within s at (step * there)) → x ≡ colAt s map off ts i at
+    col-fixed w l x q = elim (ℕ-discrete there 0) [
+      | yes z ↦
+          let none : step * there ≡ 0 = rw (z, mul-zero) refl in
+          q ∙ ap (λ (k : ℕ). endIn (within s at k)) none ∙ simp (add-zero, le-leb at (length s) w) (col-null z)
+      | no n ↦
+          let one : there ≡ 1 = omega (arith, h, n) in
+          let all : step * there ≡ step = rw (one, mul-one) refl in
+          q ∙ ap (λ (k : ℕ). endIn (within s at k)) all ∙ sym (skip-fixed s at (getD ts i 0) step e w l) ∙ col-value n
+    ]
+
+  -- a column that starts within the bytes ends within them
+  pub col-next : (i at m : ℕ) (r : End) → endSaid r ≡ colAt s map off ts i at → r ≡ E.Next m → at ≤ length s → m ≤ length s
+  col-next i at m r e q w = col-within s map off ts i at m w (sym e ∙ ap endSaid q)
 
   -- no column is left
   pub walk-none : (i at n : ℕ) → n ≤ i → walk s map off ts i at (n - i) ≡ record { starts = []; ends = gives at }

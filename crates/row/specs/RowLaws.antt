@@ -40,7 +40,7 @@ nextOf v = andThen v (λ g. gives (g .next))
 
 -- ---- one bit, and the count
 
-bit-few : (map : List ℕ) (off i : ℕ) → nullBit map off i ≤ 1
+pub bit-few : (map : List ℕ) (off i : ℕ) → nullBit map off i ≤ 1
 unfolding nullBit
 bit-few map off i = omega arith
 
@@ -121,7 +121,7 @@ module _ (s map : List ℕ) (off : ℕ) (ts : List ℕ) where
   col-by i at m true h e = rw (← gives-same e) h
   col-by i at m false h e = skip-within s at (getD ts i 0) m h e
 
-  col-within : (i at m : ℕ) → at ≤ length s → colAt s map off ts i at ≡ gives m → m ≤ length s
+  pub col-within : (i at m : ℕ) → at ≤ length s → colAt s map off ts i at ≡ gives m → m ≤ length s
   unfolding colAt
   col-within i at m h e = col-by i at m (eqb (nullBit map off i) 1) h e
 

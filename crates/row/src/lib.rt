@@ -6,12 +6,15 @@
 use refusal::Refusal;
 use value::End;
 ghost use mathlib.Core.Path.{_≡_};
-ghost use Prim.Native.Nat.{_+_, _*_, _≤_, _<_, _/_, _%_, _^_};
+ghost use Prim.Native.Nat.{_+_, _-_, _*_, _≤_, _<_, _/_, _%_, _^_};
 ghost use mathlib.Core.Bool.{cond};
 ghost use lib.ListN.{length, set};
 ghost use lib.Dec.{eqb};
 ghost use lib.Count.{ones};
-ghost use Rattle.value.specs.Read.{endSaid};
+ghost use Rattle.wire.specs.LenEnc.{within};
+ghost use Rattle.value.specs.Read.{endIn, endSaid};
+ghost use Rattle.value.specs.Kinds.{kindOf};
+ghost use Rattle.value.specs.Steps.{stepOf, Steps};
 ghost use Rattle.row.specs.Nulls.{offsetOf, nullBit, nullCount, mapSize, nullAt, nullSaid, countAt, countSaid};
 ghost use Rattle.row.specs.Walk.{colAt, walk, Passed};
 ghost use Rattle.row.specs.Row.{Rowed, listsAt, valuesOf, rowOf, paramsOf};
@@ -146,16 +149,64 @@ pub fn null_count(map: &[u8], side: Side, n: usize) -> ReadCount
 
 // ---- the columns
 
-// Where column i ends if it starts at a place: a NULL takes no bytes, and its type is not looked at.
-fn column(s: &[u8], map: &[u8], off: usize, types: &[u8], i: usize, at: usize) -> End
-    requires { ⌜ (off ≤ 2) × (i < length (now types)) × (mapSize (length (now types)) off ≤ length (now map)) ⌝ }
+// The step over a column's values by the code of its type, after `stepOf`: 0 to 16 stand at the front, 242 and 245 to 255 at the end. Looked
+// up, since a walk with the jump of a `match` in it takes longer; and lent to the walks, since a table in a loop is made anew at each turn.
+const STEPS: [u8; 256] =
+    *b"\x0A\x01\x02\x04\x04\x08\x00\x09\x08\x04\x09\x09\x09\x02\x09\x0A\x0A\x0B\x0B\x0B\x0B\x0B\x0B\x0B\x0B\x0B\x0B\x0B\x0B\x0B\x0B\x0B\
+    \x0B\x0B\x0B\x0B\x0B\x0B\x0B\x0B\x0B\x0B\x0B\x0B\x0B\x0B\x0B\x0B\x0B\x0B\x0B\x0B\x0B\x0B\x0B\x0B\x0B\x0B\x0B\x0B\x0B\x0B\x0B\x0B\
+    \x0B\x0B\x0B\x0B\x0B\x0B\x0B\x0B\x0B\x0B\x0B\x0B\x0B\x0B\x0B\x0B\x0B\x0B\x0B\x0B\x0B\x0B\x0B\x0B\x0B\x0B\x0B\x0B\x0B\x0B\x0B\x0B\
+    \x0B\x0B\x0B\x0B\x0B\x0B\x0B\x0B\x0B\x0B\x0B\x0B\x0B\x0B\x0B\x0B\x0B\x0B\x0B\x0B\x0B\x0B\x0B\x0B\x0B\x0B\x0B\x0B\x0B\x0B\x0B\x0B\
+    \x0B\x0B\x0B\x0B\x0B\x0B\x0B\x0B\x0B\x0B\x0B\x0B\x0B\x0B\x0B\x0B\x0B\x0B\x0B\x0B\x0B\x0B\x0B\x0B\x0B\x0B\x0B\x0B\x0B\x0B\x0B\x0B\
+    \x0B\x0B\x0B\x0B\x0B\x0B\x0B\x0B\x0B\x0B\x0B\x0B\x0B\x0B\x0B\x0B\x0B\x0B\x0B\x0B\x0B\x0B\x0B\x0B\x0B\x0B\x0B\x0B\x0B\x0B\x0B\x0B\
+    \x0B\x0B\x0B\x0B\x0B\x0B\x0B\x0B\x0B\x0B\x0B\x0B\x0B\x0B\x0B\x0B\x0B\x0B\x0B\x0B\x0B\x0B\x0B\x0B\x0B\x0B\x0B\x0B\x0B\x0B\x0B\x0B\
+    \x0B\x0B\x0B\x0B\x0B\x0B\x0B\x0B\x0B\x0B\x0B\x0B\x0B\x0B\x0B\x0B\x0B\x0B\x0A\x0B\x0B\x0A\x0A\x0A\x0A\x0A\x0A\x0A\x0A\x0A\x0A\x0A";
+
+fn step_of(steps: &[u8], t: u8) -> u8
+    requires { ⌜ (length (now steps) ≡ 256) × Steps (now steps) ⌝ }
+    ensures { λ r. ⌜ r ≡ stepOf (kindOf t) ⌝ }
+{
+    steps[t as usize]
+}
+
+// 1 if column i has a value, and 0 if it is NULL.
+fn has_value(map: &[u8], off: usize, i: usize) -> usize
+    requires { ⌜ (off ≤ 2) × (i ≤ 4096) × ((i + off) / 8 < length (now map)) ⌝ }
+    ensures { λ r. ⌜ r ≡ 1 - nullBit (now (map .entry)) off i ⌝ }
+{
+    let p = i + off;
+    let b = map[p / 8];
+    1 - ((b >> (p % 8)) & 1) as usize
+}
+
+// Behind k bytes, from a place within the bytes on.
+fn behind(s: &[u8], at: usize, k: usize) -> End
+    requires { ⌜ at ≤ length (now s) ⌝ }
+    ensures { λ r. ⌜ endSaid r ≡ endIn (within (now (s .entry)) at k) ⌝ }
+{
+    if k <= s.len() - at {
+        let next = at + k;
+        End::Next(next)
+    } else {
+        End::Refused(Refusal::Short)
+    }
+}
+
+// Where column i ends if it starts at a place within the bytes: a NULL takes no bytes, and its type doesn't matter. A value of a fixed size
+// is multiplied away, since which columns are NULL can't be foretold, and a branch on it would be guessed wrong time and again.
+fn column(s: &[u8], map: &[u8], off: usize, types: &[u8], steps: &[u8], i: usize, at: usize) -> End
+    requires { ⌜ (off ≤ 2) × (i < length (now types)) × (length (now types) ≤ 4096) × (mapSize (length (now types)) off ≤ length (now map))
+        × (length (now steps) ≡ 256) × Steps (now steps) × (at ≤ length (now s)) ⌝ }
     ensures { λ r. ⌜ endSaid r ≡ colAt (now (s .entry)) (now (map .entry)) off (now (types .entry)) i at ⌝ }
 {
-    if is_null(map, off, i) {
+    let there = has_value(map, off, i);
+    let step = step_of(steps, types[i]);
+    if step <= 8 {
+        return behind(s, at, step as usize * there);
+    }
+    if there == 0 {
         return End::Next(at);
     }
-    let t = types[i];
-    value::skip(s, at, t)
+    value::inner::skip_led(s, at, step)
 }
 
 // A column's start in the list, if it is to be written.
@@ -174,18 +225,21 @@ fn pass(
     map: &[u8],
     off: usize,
     types: &[u8],
+    steps: &[u8],
     from: usize,
     starts: &mut [usize],
     write: bool,
 ) -> End
-    requires { ⌜ (off ≤ 2) × (mapSize (length (now types)) off ≤ length (now map)) × (length (now types) ≤ length (now starts)) ⌝ }
-    ensures { λ r. ⌜ Passed (walk (now (s .entry)) (now (map .entry)) off (now (types .entry)) 0 from (length (now (types .entry)))) write (now (starts .entry)) r (now (starts .exit)) ⌝ }
+    requires { ⌜ (off ≤ 2) × (length (now types) ≤ 4096) × (mapSize (length (now types)) off ≤ length (now map)) × (length (now steps) ≡ 256)
+        × Steps (now steps) × (from ≤ length (now s)) × (length (now types) ≤ length (now starts)) ⌝ }
+    ensures { λ r. ⌜ Passed (walk (now (s .entry)) (now (map .entry)) off (now (types .entry)) 0 from (length (now (types .entry))))
+        write (now (starts .entry)) r (now (starts .exit)) ⌝ }
 {
     let mut at = from;
     let mut i = 0;
     while i < types.len() {
         mark(starts, i, at, write);
-        match column(s, map, off, types, i, at) {
+        match column(s, map, off, types, steps, i, at) {
             End::Next(next) => {
                 at = next;
             }
@@ -210,9 +264,10 @@ fn read_values(s: &[u8], lead: usize, off: usize, types: &[u8], starts: &mut [us
     }
     let from = lead + w;
     let map = &s[lead..from];
-    match pass(s, map, off, types, from, starts, false) {
+    let steps = STEPS;
+    match pass(s, map, off, types, &steps, from, starts, false) {
         End::Next(used) => {
-            pass(s, map, off, types, from, starts, true);
+            pass(s, map, off, types, &steps, from, starts, true);
             let nulls = count_nulls(map, off, n);
             ReadRow::Done(Columns { nulls, used })
         }

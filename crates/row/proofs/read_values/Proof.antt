@@ -1,4 +1,6 @@
 use Rattle.row.proofs.EndLaws.{values-short, values-read, values-stop}
+use Rattle.row.proofs.StepLaws.{agree, steps-are}
+use Rattle.value.specs.Kinds.{kindOf}
 use mathlib.Core.Path.{refl}
 use native.Mathlib.Nat.{add-sub-cancel-left}
 use native.Mathlib.Omega.{arith}
@@ -35,14 +37,22 @@ part-map-start c = search needs
 part-map-end : tie.Need-part-map-end
 part-map-end c = search needs
 
+slice-aggregate-pass : tie.Need-slice-aggregate-pass
+slice-aggregate-pass c = search needs
+
 pass-requires : tie.Need-pass-requires
-pass-requires c κs = search needs
+unfolding agree kindOf
+pass-requires c κs = (search needs, search needs, search needs, refl, steps-are _ refl refl, omega arith, search needs)
 
 enum-known-used : tie.Need-enum-known-used
 enum-known-used c = search needs
 
+slice-aggregate-pass-2 : tie.Need-slice-aggregate-pass-2
+slice-aggregate-pass-2 c = search needs
+
 pass-requires-2 : tie.Need-pass-requires-2
-pass-requires-2 c κs = search needs
+unfolding agree kindOf
+pass-requires-2 c κs = (search needs, search needs, search needs, refl, steps-are _ refl refl, omega arith, search needs)
 
 count-nulls-requires : tie.Need-count-nulls-requires
 count-nulls-requires c κs = search needs
@@ -56,9 +66,9 @@ same-length c = search needs
 returns-2 : tie.Need-returns-2
 returns-2 c =
     let p2 = c .before .before .before in
-    let at-u = p2 .before .before .before in
+    let at-u = p2 .before .before .before .before in
     let p = at-u .before .before .before .before in
-    let t = p .before .before .before in
+    let t = p .before .before .before .before in
     let m = t .before in
     let b = m .before .before .before .before in
     let a = b .args in
@@ -71,7 +81,7 @@ same-length-2 c = search needs
 returns-3 : tie.Need-returns-3
 returns-3 c =
     let p = c .before .before .before .before .before in
-    let t = p .before .before .before in
+    let t = p .before .before .before .before in
     let m = t .before in
     let b = m .before .before .before .before in
     let a = b .args in
@@ -89,8 +99,10 @@ read-values-spec =
     sub-map
     part-map-start
     part-map-end
+    slice-aggregate-pass
     pass-requires
     enum-known-used
+    slice-aggregate-pass-2
     pass-requires-2
     count-nulls-requires
     enum-known-r
