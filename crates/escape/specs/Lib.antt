@@ -2,3 +2,4 @@ pub mod Quote
 pub mod QuoteLaws
 pub mod Meaning
 pub mod MeaningLaws
+pub mod Turns

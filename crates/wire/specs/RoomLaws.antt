@@ -6,7 +6,8 @@ use native.Mathlib.Numerals.{add-one}
 use native.Mathlib.Nat.{add-assoc, add-zero}
 use native.Mathlib.Omega.{arith}
 use lib.ListN.{length, take, drop, set, length-set, length-append, length-take, length-drop, take-append-drop}
-use lib.Seq.{paste, take-length, take-add, take-take, take-append-le, drop-append-le, sets, sets-eq, take-at, drop-at, drop-append-add, drop-drop, length-take-le, set-split, append-snoc}
+use lib.Seq.{paste, take-length, take-add, take-take, take-append-le, drop-append-le, sets, sets-eq, take-at, drop-at, drop-append-add, drop-drop}
+use lib.Seq.{length-take-le, set-split, append-snoc}
 use borrow.Author.Tests.{le-leb, lt-leb, leb-true, leb-false}
 use mathlib.Core.Bool.{Bool, true, false}
 use lib.Dec.{leb}
@@ -50,7 +51,7 @@ patch-append d at bs cs h =
     rw (t, u, length-append) (rw (append-assoc (take at d) bs cs))
 
 -- other bytes at the same place, no fewer: nothing is left of the first
-patch-again : (d : List ℕ) (at : ℕ) (bs cs : List ℕ) → length bs ≤ length cs → at + length cs ≤ length d → patch (patch d at bs) at cs ≡ patch d at cs
+pub patch-again : (d : List ℕ) (at : ℕ) (bs cs : List ℕ) → length bs ≤ length cs → at + length cs ≤ length d → patch (patch d at bs) at cs ≡ patch d at cs
 patch-again d at bs cs h r =
     let more = length cs - length bs in
     let front : length (take at d) ≡ at = length-take-le at d (omega arith) in
@@ -61,6 +62,19 @@ patch-again d at bs cs h r =
     let u : drop (at + length cs) (patch d at bs) ≡ drop (at + length cs) d =
     rw (sum, drop-append-add) (rw (drop-drop, sym whole) refl) in
     rw (t, u)
+
+-- j bytes of s from a place on, and the k behind them
+pub patch-parts : (d : List ℕ) (at : ℕ) (s : List ℕ) (i j k : ℕ) → i + (j + k) ≤ length s → at + (j + k) ≤ length d
+    → patch (patch d at (take j (drop i s))) (at + j) (take k (drop (i + j) s)) ≡ patch d at (take (j + k) (drop i s))
+patch-parts d at s i j k h r =
+    let a = take j (drop i s) in
+    let b = take k (drop (i + j) s) in
+    let la : length a ≡ j = length-take-le j (drop i s) (omega (arith, length-drop i s)) in
+    let lb : length b ≡ k = length-take-le k (drop (i + j) s) (omega (arith, length-drop (i + j) s)) in
+    ap (λ (x : ℕ). patch (patch d at a) (at + x) b) (sym la)
+    ∙ patch-append d at a b (omega (arith, la, lb))
+    ∙ ap (λ (x : List ℕ). patch d at (a ++ take k x)) (sym (drop-drop j i s))
+    ∙ ap (patch d at) (sym (take-add j k (drop i s)))
 
 -- what stands at a place, put there again
 pub patch-same : (d : List ℕ) (at k : ℕ) → at + k ≤ length d → patch d at (take k (drop at d)) ≡ d

@@ -81,12 +81,29 @@ fn run(dst: &mut [u8], at: usize, src: &[u8])
     }
 }
 
-// Eight bytes of src to their place, as one number: so the compiler makes them one load and one store.
+// Eight bytes of src, from j on, as one number: so the compiler makes them one load and one store.
+pub fn copy_eight(dst: &mut [u8], at: usize, src: &[u8], j: usize)
+    requires { ⌜ (j + 8 ≤ length (now src)) × (at + 8 ≤ length (now dst)) ⌝ }
+    ensures { λ _. ⌜ now (dst .exit) ≡ patch (now (dst .entry)) at (take 8 (drop j (now (src .entry)))) ⌝ }
+{
+    put_le(dst, at, 8, eight(src, j));
+}
+
+// Sixteen of them.
+pub fn copy_sixteen(dst: &mut [u8], at: usize, src: &[u8], j: usize)
+    requires { ⌜ (j + 16 ≤ length (now src)) × (at + 16 ≤ length (now dst)) ⌝ }
+    ensures { λ _. ⌜ now (dst .exit) ≡ patch (now (dst .entry)) at (take 16 (drop j (now (src .entry)))) ⌝ }
+{
+    copy_eight(dst, at, src, j);
+    copy_eight(dst, at + 8, src, j + 8);
+}
+
+// Eight bytes of src to their place in a copy of all of it.
 fn word(dst: &mut [u8], at: usize, src: &[u8], j: usize)
     requires { ⌜ (j + 8 ≤ length (now src)) × (at + length (now src) ≤ length (now dst)) ⌝ }
     ensures { λ _. ⌜ now (dst .exit) ≡ patch (now (dst .entry)) (at + j) (take 8 (drop j (now (src .entry)))) ⌝ }
 {
-    put_le(dst, at + j, 8, eight(src, j));
+    copy_eight(dst, at + j, src, j);
 }
 
 // More than 32 bytes. The first and the last go as words, and what lies between in wide steps from a multiple of 16 on: a store that

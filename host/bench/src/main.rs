@@ -588,10 +588,25 @@ fn quoting(path: &str, runs: usize, rows: &mut Vec<Row>) {
         Err(why) => return eprintln!("bench: {path}: {why}: names are left out"),
     };
     let names: Vec<&str> = text.lines().collect();
+    let clean: String = (0..1 << 20).map(|i| (b'a' + (i % 26) as u8) as char).collect();
+    let some: String = (0..1 << 20).map(|i| if i % 40 == 39 { '\'' } else { (b'a' + (i % 26) as u8) as char }).collect();
+    let alone = "'".repeat(1 << 20);
+    let count = grouped(names.len());
+    for doubled in [false, true] {
+        let mode = if doubled { ", quotes doubled" } else { "" };
+        quoting_of(&format!("quoting {count} station names{mode}"), "name", &names, doubled, runs, rows);
+        quoting_of(&format!("quoting 1 MiB of clean text{mode}"), "text", &[&clean], doubled, runs, rows);
+        quoting_of(&format!("quoting 1 MiB, a quote every 40 bytes{mode}"), "text", &[&some], doubled, runs, rows);
+        quoting_of(&format!("quoting 1 MiB of quotes alone{mode}"), "text", &[&alone], doubled, runs, rows);
+    }
+}
+
+/// Plain C and libmariadb in the mode with backslashes alone: the second takes the mode from a server.
+fn quoting_of(name: &str, unit: &'static str, names: &[&str], doubled: bool, runs: usize, rows: &mut Vec<Row>) {
     let bytes: usize = names.iter().map(|n| n.len()).sum();
     let count = names.len();
-    let turns = 4;
-    let wanted: usize = names.iter().map(|n| Value::Bytes(n.as_bytes().to_vec()).as_sql(false).len()).sum();
+    let turns = if count > 1 { 4 } else { 1 };
+    let wanted: usize = names.iter().map(|n| Value::Bytes(n.as_bytes().to_vec()).as_sql(doubled).len()).sum();
     let longest = names.iter().map(|n| n.len()).max().unwrap_or(0);
     let mut mine = vec![1u8; 2 * longest + 2];
     #[cfg(archive)]
@@ -599,9 +614,9 @@ fn quoting(path: &str, runs: usize, rows: &mut Vec<Row>) {
         let start = Instant::now();
         for _ in 0..turns {
             let mut total = 0;
-            for n in &names {
+            for n in names {
                 let mut next = 0;
-                assert!(unsafe { mk_escaped(mine.as_mut_ptr(), mine.len(), 0, n.as_ptr(), n.len(), 0, &mut next) } == 0);
+                assert!(unsafe { mk_escaped(mine.as_mut_ptr(), mine.len(), 0, n.as_ptr(), n.len(), doubled as u8, &mut next) } == 0);
                 black_box(&mine);
                 total += next;
             }
@@ -620,18 +635,18 @@ fn quoting(path: &str, runs: usize, rows: &mut Vec<Row>) {
         for _ in 0..turns {
             let mut total = 0;
             for v in &values {
-                total += black_box(v.as_sql(false)).len();
+                total += black_box(v.as_sql(doubled)).len();
             }
             assert_eq!(total, wanted);
         }
         per(start, count * turns)
     }));
     let mut theirs = vec![1u8; 2 * longest + 2];
-    let c: Side = Some(Box::new(|| {
+    let mut c: Side = Some(Box::new(|| {
         let start = Instant::now();
         for _ in 0..turns {
             let mut total = 0;
-            for n in &names {
+            for n in names {
                 total += unsafe { pc_escaped(theirs.as_mut_ptr(), n.as_ptr(), n.len()) };
                 black_box(&theirs);
             }
@@ -639,10 +654,16 @@ fn quoting(path: &str, runs: usize, rows: &mut Vec<Row>) {
         }
         per(start, count * turns)
     }));
+    if doubled {
+        c = None;
+    }
     let [ours, rust, c] = measure(runs, &mut [ours, rust, c]);
     let speed = |t: Option<f64>| t.map_or("-".into(), |t| format!("{:.0}", bytes as f64 / count as f64 / t * 1000.0));
     let note = format!("MB/s: ours {}, Rust {} (a new String each), C byte by byte {}", speed(ours), speed(rust), speed(c));
-    rows.push(Row { name: format!("quoting {} station names", grouped(count)), unit: "name", ours, rust, c, note });
+    rows.push(Row { name: name.into(), unit, ours, rust, c, note });
+    if doubled {
+        return;
+    }
     #[cfg(mariadb)]
     {
         let handle = unsafe { mysql_init(std::ptr::null_mut()) };
@@ -652,9 +673,9 @@ fn quoting(path: &str, runs: usize, rows: &mut Vec<Row>) {
         let ours: Side = Some(Box::new(|| {
             let start = Instant::now();
             for _ in 0..turns {
-                for n in &names {
+                for n in names {
                     let mut next = 0;
-                    assert!(unsafe { mk_escaped(mine.as_mut_ptr(), mine.len(), 0, n.as_ptr(), n.len(), 0, &mut next) } == 0);
+                    assert!(unsafe { mk_escaped(mine.as_mut_ptr(), mine.len(), 0, n.as_ptr(), n.len(), doubled as u8, &mut next) } == 0);
                     black_box(&mine);
                 }
             }
@@ -671,7 +692,7 @@ fn quoting(path: &str, runs: usize, rows: &mut Vec<Row>) {
             let start = Instant::now();
             for _ in 0..turns {
                 let mut total = 0;
-                for n in &names {
+                for n in names {
                     total += unsafe { mysql_real_escape_string(handle, theirs.as_mut_ptr(), n.as_ptr(), n.len() as _) } as usize;
                     black_box(&theirs);
                 }
@@ -682,7 +703,7 @@ fn quoting(path: &str, runs: usize, rows: &mut Vec<Row>) {
         let copy: Side = Some(Box::new(|| {
             let start = Instant::now();
             for _ in 0..turns {
-                for n in &names {
+                for n in names {
                     copied[..n.len()].copy_from_slice(n.as_bytes());
                     black_box(&copied);
                 }
@@ -692,8 +713,8 @@ fn quoting(path: &str, runs: usize, rows: &mut Vec<Row>) {
         let [ours, mariadb, copy] = measure(runs, &mut [ours, mariadb, copy]);
         let note =
             format!("MB/s: libmariadb {} (in the C column, charset {charset}, no quotes around), memcpy {}", speed(mariadb), speed(copy));
-        let name = "quoting the names, mysql_real_escape_string".into();
-        rows.push(Row { name, unit: "name", ours, rust: None, c: mariadb, note });
+        let name = format!("{name}, mysql_real_escape_string");
+        rows.push(Row { name, unit, ours, rust: None, c: mariadb, note });
     }
 }
 

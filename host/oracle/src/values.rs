@@ -587,8 +587,22 @@ pub fn utf8(rng: &mut Rng) -> String {
     s
 }
 
+/// Text of some hundred bytes with few bytes that change, or none: long inputs are quoted in blocks.
+fn calm(rng: &mut Rng) -> String {
+    let rare = 1 + rng.below(200);
+    (0..rng.below(600))
+        .map(|_| {
+            if rng.chance(1, rare) {
+                *rng.pick(&['\0', '\n', '\r', '\x1a', '\\', '\'', '"', 'ü'])
+            } else {
+                (b'a' + rng.byte() % 26) as char
+            }
+        })
+        .collect()
+}
+
 pub fn random_escape(ours: &Ours, rng: &mut Rng, counts: &mut Counts) -> Result<(), String> {
-    let s = utf8(rng);
+    let s = if rng.chance(1, 10) { calm(rng) } else { utf8(rng) };
     let flag = *rng.pick(&[0, 0, 1, 255]);
     counts.op("escape");
     let Err(mut why) = escaped(ours, &s, flag, rng.below(5), rng.below(4)) else { return Ok(()) };

@@ -16,7 +16,8 @@ fits-requires c κs = search needs
 put-quoted-requires : tie.Need-put-quoted-requires
 put-quoted-requires c κs =
     let a = c .before .before .before .before .before .before .args in
-    has-yes (a .at + length (quoted (a .no-backslash-escape) (a .input .now))) (length (a .dst .now)) (c .before .before .fits2 .ensures) (c .before .if1 .taken)
+    has-yes (a .at + length (quoted (a .no-backslash-escape) (a .input .now))) (length (a .dst .now)) (c .before .before .fits2 .ensures)
+    (c .before .if1 .taken)
 
 same-length : tie.Need-same-length
 same-length c = search needs
@@ -36,7 +37,8 @@ same-length-2 c = search needs
 returns-2 : tie.Need-returns-2
 returns-2 c =
     let a = c .before .before .before .before .before .args in
-    wrote-full (quoted (a .no-backslash-escape) (a .input .now)) (a .dst .now) (a .at) (has-no (a .at + length (quoted (a .no-backslash-escape) (a .input .now))) (length (a .dst .now)) (c .before .fits2 .ensures) (c .if1 .left))
+    wrote-full (quoted (a .no-backslash-escape) (a .input .now)) (a .dst .now) (a .at)
+    (has-no (a .at + length (quoted (a .no-backslash-escape) (a .input .now))) (length (a .dst .now)) (c .before .fits2 .ensures) (c .if1 .left))
 
 pub escaped-spec : {M : Type 1} → statement M
 escaped-spec =

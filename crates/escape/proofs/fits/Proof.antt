@@ -24,7 +24,8 @@ sub-if2 c = search needs
 returns-2 : tie.Need-returns-2
 returns-2 c =
     let a = c .before .before .before .before .args in
-    sym (le-leb (a .at + length (quoted (a .no-backslash-escape) (a .input .now))) (length (a .dst .now)) (omega (arith, quoted-length (a .no-backslash-escape) (a .input .now), mores-most (a .no-backslash-escape) (a .input .now))))
+    sym (le-leb (a .at + length (quoted (a .no-backslash-escape) (a .input .now))) (length (a .dst .now))
+    (omega (arith, quoted-length (a .no-backslash-escape) (a .input .now), mores-most (a .no-backslash-escape) (a .input .now))))
 
 escaped-len-requires : tie.Need-escaped-len-requires
 escaped-len-requires c κs = search needs

@@ -1,37 +1,60 @@
-use Rattle.escape.specs.QuoteLaws.{mores, mores-more, mores-most}
-use lib.Seq.{drop-length}
-use lib.ListN.{length, drop}
-use native.Mathlib.Numerals.{add-one}
+use Rattle.escape.proofs.PutLaws.{mores-part}
+use Rattle.escape.specs.QuoteLaws.{mores, mores-most}
+use lib.ListN.{length, take, drop, length-drop}
+use lib.Seq.{take-all}
+use mathlib.Core.Bool.{Bool}
+use mathlib.Core.List.{List}
+use mathlib.Core.Path.{_≡_, ap, _∙_}
+use Prim.Native.Nat.{ℕ, _+_, _-_, _≤_}
 use native.Mathlib.Omega.{arith}
-use mathlib.Core.Path.{_≡_}
-use Prim.Native.Nat.{_+_, _-_, _≤_}
 use borrow.Author.Needs.{needs}
 use Rattle.escape.proofs.mores.Statement.{statement}
 use Rattle.escape.proofs.mores.Tie as tie
 use Rattle.escape.proofs.mores.Reads as reads
 use Rattle.escape.proofs.mores.Lts as lts
-use Rattle.escape.proofs.more_of.Reads as more-of-reads
+use Rattle.escape.proofs.mores_in.Reads as mores-in-reads
+use Rattle.escape.proofs.quotes.Reads as quotes-reads
+
+-- the last part is all that is left
+last : (m : Bool) (s : List ℕ) (i : ℕ) {r : ℕ} → r ≡ mores m (take (length s - i) (drop i s)) → r ≡ mores m (drop i s)
+last m s i e = e ∙ ap (mores m) (take-all (length s - i) (drop i s) (omega (arith, length-drop i s)))
 
 abbrev Inv-loop : tie.InvT-loop
-Inv-loop input no-backslash-escape n₀ i₀ n i = (i ≤ length input) × (n + mores no-backslash-escape (drop i input) ≡ mores no-backslash-escape input)
+Inv-loop input mode n₀ i₀ n i = (i ≤ length input) × (n + mores mode (drop i input) ≡ mores mode input)
 
 abbrev μ-loop : tie.MeasureT-loop
-μ-loop input no-backslash-escape n₀ i₀ n i = length input - i
+μ-loop input mode n₀ i₀ n i = length input - i
+
+quotes-requires : tie.Need-quotes-requires Inv-loop μ-loop
+quotes-requires c κs = search needs
+
+returns : tie.Need-returns Inv-loop μ-loop
+returns c = rw (c .before .before .if1 .taken) (c .quotes .ensures)
 
 loop-holds : tie.Need-loop-holds Inv-loop μ-loop
-loop-holds c = search needs
+loop-holds c = (omega arith, omega arith)
 
-shared-slice-read-more-of : tie.Need-shared-slice-read-more-of Inv-loop μ-loop
-shared-slice-read-more-of c = search needs
+sub-loop : tie.Need-sub-loop Inv-loop μ-loop
+sub-loop c = search needs
 
-more-of-requires : tie.Need-more-of-requires Inv-loop μ-loop
-more-of-requires c κs = search needs
+mores-in-requires : tie.Need-mores-in-requires Inv-loop μ-loop
+mores-in-requires c κs = search needs
+
+cast-n : tie.Need-cast-n Inv-loop μ-loop
+cast-n c = search needs
 
 add-n : tie.Need-add-n Inv-loop μ-loop
 add-n c =
-    let l = c .before .before .before .loop in
     let a = c .before .before .before .before .before .args in
-    omega (arith, mores-more (a .no-backslash-escape) (a .input .now) (l .i) (omega arith), mores-most (a .no-backslash-escape) (a .input .now), c .more-of .ensures)
+    let l = c .before .before .loop in
+    omega (
+      arith,
+      l .inv .1,
+      c .mores-in .ensures,
+      mores-part (a .no-backslash-escape) (a .input .now) (l .i) 64,
+      mores-most (a .no-backslash-escape)
+          (a .input .now),
+    )
 
 add-i : tie.Need-add-i Inv-loop μ-loop
 add-i c = search needs
@@ -41,19 +64,30 @@ loop-less c = search needs
 
 loop-again : tie.Need-loop-again Inv-loop μ-loop
 loop-again c =
-    let l = c .before .before .before .loop in
     let a = c .before .before .before .before .before .args in
-    let e = mores-more (a .no-backslash-escape) (a .input .now) (l .i) (omega arith) in
-    (omega arith, rw add-one (omega (arith, e, c .more-of .ensures)))
+    let l = c .before .before .loop in
+    (omega arith, omega (arith, l .inv .1, c .mores-in .ensures, mores-part (a .no-backslash-escape) (a .input .now) (l .i) 64))
 
-returns : tie.Need-returns Inv-loop μ-loop
-unfolding mores
-returns c =
-    let l = c .before .loop in
-    let a = c .before .before .before .args in
-    let e : l .i ≡ length (a .input .now) = omega arith in
-    let z : mores (a .no-backslash-escape) (drop (l .i) (a .input .now)) ≡ 0 = rw (e, drop-length) in
-    omega (arith, l .inv .1)
+sub-mores-in : tie.Need-sub-mores-in Inv-loop μ-loop
+sub-mores-in c = search needs
+
+mores-in-requires-2 : tie.Need-mores-in-requires-2 Inv-loop μ-loop
+mores-in-requires-2 c κs = search needs
+
+cast-result : tie.Need-cast-result Inv-loop μ-loop
+cast-result c = search needs
+
+add-result : tie.Need-add-result Inv-loop μ-loop
+add-result c =
+    let a = c .before .before .before .before .before .args in
+    let l = c .before .before .loop in
+    omega (arith, l .inv .1, last (a .no-backslash-escape) (a .input .now) (l .i) (c .mores-in2 .ensures), mores-most (a .no-backslash-escape) (a .input .now))
+
+returns-2 : tie.Need-returns-2 Inv-loop μ-loop
+returns-2 c =
+    let a = c .before .before .before .before .before .args in
+    let l = c .before .before .loop in
+    omega (arith, l .inv .1, last (a .no-backslash-escape) (a .input .now) (l .i) (c .mores-in2 .ensures))
 
 pub mores-spec : {M : Type 1} → statement M
 mores-spec =
@@ -61,11 +95,18 @@ mores-spec =
     (tie.spec
     Inv-loop
     μ-loop
+    quotes-requires
+    returns
     loop-holds
-    shared-slice-read-more-of
-    more-of-requires
+    sub-loop
+    mores-in-requires
+    cast-n
     add-n
     add-i
     loop-less
     loop-again
-    returns)
+    sub-mores-in
+    mores-in-requires-2
+    cast-result
+    add-result
+    returns-2)

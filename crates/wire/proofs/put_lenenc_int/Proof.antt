@@ -35,7 +35,8 @@ same-length-3 : tie.Need-same-length-3
 same-length-3 c = search needs
 
 returns-3 : tie.Need-returns-3
-returns-3 c = rw (len-4 (c .before .before .before .before .before .before .before .before .args .v) (omega arith) (omega arith) (omega arith)) (c .before .before .put-led3 .ensures)
+returns-3 c = rw (len-4 (c .before .before .before .before .before .before .before .before .args .v) (omega arith) (omega arith) (omega arith))
+    (c .before .before .put-led3 .ensures)
 
 put-led-requires-4 : tie.Need-put-led-requires-4
 put-led-requires-4 c κs = search needs
@@ -44,7 +45,8 @@ same-length-4 : tie.Need-same-length-4
 same-length-4 c = search needs
 
 returns-4 : tie.Need-returns-4
-returns-4 c = rw (len-9 (c .before .before .before .before .before .before .before .before .args .v) (omega arith) (omega arith) (omega arith)) (c .before .before .put-led4 .ensures)
+returns-4 c = rw (len-9 (c .before .before .before .before .before .before .before .before .args .v) (omega arith) (omega arith) (omega arith))
+    (c .before .before .put-led4 .ensures)
 
 pub put-lenenc-int-spec : {M : Type 1} → statement M
 put-lenenc-int-spec =

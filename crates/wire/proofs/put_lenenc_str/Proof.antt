@@ -53,21 +53,30 @@ add-body : tie.Need-add-body
 add-body c =
     let p = c .before .before .before .before in
     let a = p .before .before .before .before .before .before .before .args in
-    omega (arith, has-yes (a .at + (p .before .before .before .lenenc-int-len .result + length (a .src .now))) (length (a .dst .now)) (p .before .has .ensures) (p .if2 .taken))
+    omega (
+      arith,
+      has-yes (a .at + (p .before .before .before .lenenc-int-len .result + length (a .src .now))) (length (a .dst .now))
+          (p .before .has .ensures) (p .if2 .taken),
+    )
 
 copy-requires : tie.Need-copy-requires
 copy-requires c κs =
     let q = c .before .before .before in
     let p = q .before .before in
     let a = p .before .before .before .before .before .before .before .args in
-    let h = has-yes (a .at + (p .before .before .before .lenenc-int-len .result + length (a .src .now))) (length (a .dst .now)) (p .before .has .ensures) (p .if2 .taken) in
+    let h = has-yes (a .at + (p .before .before .before .lenenc-int-len .result + length (a .src .now))) (length (a .dst .now))
+    (p .before .has .ensures) (p .if2 .taken) in
     omega (arith, h, q .put-lenenc-int .kept .0)
 
 add-t22 : tie.Need-add-t22
 add-t22 c =
     let p = c .before .before .before .before .before .before .before .before in
     let a = p .before .before .before .before .before .before .before .args in
-    omega (arith, has-yes (a .at + (p .before .before .before .lenenc-int-len .result + length (a .src .now))) (length (a .dst .now)) (p .before .has .ensures) (p .if2 .taken))
+    omega (
+      arith,
+      has-yes (a .at + (p .before .before .before .lenenc-int-len .result + length (a .src .now))) (length (a .dst .now))
+          (p .before .has .ensures) (p .if2 .taken),
+    )
 
 same-length : tie.Need-same-length
 same-length c = search needs
@@ -78,7 +87,8 @@ returns-2 c =
     let p = q .before .before in
     let a = p .before .before .before .before .before .before .before .args in
     let n = p .before .before .before .lenenc-int-len .ensures in
-    let h = has-yes (a .at + (p .before .before .before .lenenc-int-len .result + length (a .src .now))) (length (a .dst .now)) (p .before .has .ensures) (p .if2 .taken) in
+    let h = has-yes (a .at + (p .before .before .before .lenenc-int-len .result + length (a .src .now))) (length (a .dst .now))
+    (p .before .has .ensures) (p .if2 .taken) in
     written (a .src .now) (a .dst .now) (a .at) n h (q .put-lenenc-int .ensures) (c .before .before .copy .ensures)
 
 same-length-2 : tie.Need-same-length-2

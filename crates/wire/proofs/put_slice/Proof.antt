@@ -32,7 +32,8 @@ returns : tie.Need-returns
 returns c =
     let p = c .before .before .before .before in
     let a = p .before .before .before .before .before .args in
-    wrote-next (a .src .now) (a .dst .now) (a .at) _ _ (has-yes (a .at + length (a .src .now)) (length (a .dst .now)) (p .before .has .ensures) (p .if1 .taken)) refl (c .before .before .copy .ensures)
+    wrote-next (a .src .now) (a .dst .now) (a .at) _ _
+    (has-yes (a .at + length (a .src .now)) (length (a .dst .now)) (p .before .has .ensures) (p .if1 .taken)) refl (c .before .before .copy .ensures)
 
 same-length-2 : tie.Need-same-length-2
 same-length-2 c = search needs

@@ -36,7 +36,8 @@ returns c =
     let p = c .before .before .before .before in
     let a = p .before .before .before .before .args in
     let h : a .at + a .k ≤ length (a .dst .now) = has-yes (a .at + a .k) (length (a .dst .now)) (p .before .has .ensures) (p .if1 .taken) in
-    wrote-next (leBytes (a .k) (a .v)) (a .dst .now) (a .at) _ _ (omega (arith, le-length (a .k) (a .v), h)) (omega (arith, le-length (a .k) (a .v))) (c .before .before .put-le .ensures)
+    wrote-next (leBytes (a .k) (a .v)) (a .dst .now) (a .at) _ _ (omega (arith, le-length (a .k) (a .v), h)) (omega (arith, le-length (a .k) (a .v)))
+    (c .before .before .put-le .ensures)
 
 same-length-2 : tie.Need-same-length-2
 same-length-2 c = search needs

@@ -41,7 +41,8 @@ add-b c = search needs
 shared-slice-read-b : tie.Need-shared-slice-read-b Inv-loop μ-loop
 shared-slice-read-b c = search needs
 
-byte : (c : tie.After-shared-slice-known2 Inv-loop μ-loop) → getD (c .before .before .before .before .before .args .s .now) (c .before .before .before .before .before .args .at + (c .before .before .loop .i - 1)) 0 < 256
+byte : (c : tie.After-shared-slice-known2 Inv-loop μ-loop) → getD (c .before .before .before .before .before .args .s .now)
+    (c .before .before .before .before .before .args .at + (c .before .before .loop .i - 1)) 0 < 256
 byte c = omega (arith, c .shared-slice-known2 .given (c .before .before .before .before .before .args .at + (c .before .before .loop .i - 1)))
 
 mul-v : tie.Need-mul-v Inv-loop μ-loop

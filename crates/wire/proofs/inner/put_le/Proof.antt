@@ -23,7 +23,13 @@ abbrev μ-loop : tie.MeasureT-loop
 μ-loop dst₀ at k v rest₀ i₀ dst rest i = k - i
 
 loop-holds : tie.Need-loop-holds Inv-loop μ-loop
-loop-holds c = (omega arith, paste-zero (c .args .dst .now) (c .args .at) (leBytes (c .args .k) (c .args .v)), ap (λ (n : ℕ). leBytes n (c .args .v)) (sub-zero (c .args .k)), refl)
+loop-holds c = (
+  omega arith,
+  paste-zero (c .args .dst .now) (c .args .at) (leBytes (c .args .k) (c .args .v)),
+  ap (λ (n : ℕ). leBytes n (c .args .v))
+      (sub-zero (c .args .k)),
+  refl,
+)
 
 cast-dst : tie.Need-cast-dst Inv-loop μ-loop
 cast-dst c = search needs

@@ -1,0 +1,63 @@
+use Rattle.escape.proofs.PutLaws.{double-two, double-one, leads-put}
+use Rattle.wire.specs.RoomLaws.{patch-one, patch-two}
+use lib.ListN.{length, length-set}
+use mathlib.Core.List.{[], _∷_}
+use Prim.Native.Nat.{ℕ, _+_}
+use native.Mathlib.Omega.{arith}
+use mathlib.Core.Path.{_≡_, refl, sym, ap, _∙_}
+use borrow.Author.Needs.{needs}
+use Rattle.escape.proofs.put_double.Statement.{statement}
+use Rattle.escape.proofs.put_double.Tie as tie
+use Rattle.escape.proofs.put_double.Reads as reads
+use Rattle.escape.proofs.put_double.Lts as lts
+
+slice-write-dst : tie.Need-slice-write-dst
+slice-write-dst c = search needs
+
+add-dst : tie.Need-add-dst
+add-dst c = search needs
+
+slice-write-dst-2 : tie.Need-slice-write-dst-2
+slice-write-dst-2 c = simp length-set (omega arith)
+
+add-result : tie.Need-add-result
+add-result c = search needs
+
+same-length : tie.Need-same-length
+same-length c = search needs
+
+returns : tie.Need-returns
+returns c =
+    let a = c .before .args in
+    let two = double-two (a .b) (c .if1 .taken) in (
+      ap (λ (n : ℕ). a .at + n) (sym (ap length two)),
+      rw two (leads-put 1 (a .b ∷ a .b ∷ []) (a .dst .now) (a .at) (patch-two (a .dst .now) (a .at) (a .b) (a .b) (c .before .pre))),
+    )
+
+add-result-2 : tie.Need-add-result-2
+add-result-2 c = search needs
+
+same-length-2 : tie.Need-same-length-2
+same-length-2 c = search needs
+
+returns-2 : tie.Need-returns-2
+returns-2 c =
+    let a = c .before .args in
+    let one = double-one (a .b) (c .if1 .left) in (
+      ap (λ (n : ℕ). a .at + n) (sym (ap length one)),
+      rw one (leads-put 1 (a .b ∷ []) (a .dst .now) (a .at) (patch-one (a .dst .now) (a .at) (a .b) (omega arith))),
+    )
+
+pub put-double-spec : {M : Type 1} → statement M
+put-double-spec =
+    tie.close
+    (tie.spec
+    slice-write-dst
+    add-dst
+    slice-write-dst-2
+    add-result
+    same-length
+    returns
+    add-result-2
+    same-length-2
+    returns-2)
