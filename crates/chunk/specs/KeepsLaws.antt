@@ -117,7 +117,8 @@ module _ (m : ℕ) (x : Tolerance) where
       → Call (turnOf m x st u b .done .next) (drop (turnOf m x st u b .done .used) u) (turnOf m x st u b .done .buf) → Call st u b
   keeps-more st u b e ih =
       rw (opened-more m x st u b e)
-      (joined st b (turnOf m x st u b) (opened m x (turnOf m x st u b .done .next) (drop (turnOf m x st u b .done .used) u) (turnOf m x st u b .done .buf)) e (turn-keeps m x st u b) ih)
+      (joined st b (turnOf m x st u b) (opened m x (turnOf m x st u b .done .next) (drop (turnOf m x st u b .done .used) u)
+      (turnOf m x st u b .done .buf)) e (turn-keeps m x st u b) ih)
 
   pub opened-keeps : (st : PlainPacketCodec) (u b : List ℕ) → Keeps st b (opened m x st u b)
   opened-keeps = by-turns Call m x keeps-last keeps-more

@@ -18,7 +18,8 @@ use Rattle.chunk.specs.declared.Tolerance.{Tolerance}
 use Rattle.chunk.specs.declared.Answer.{Answer}
 use Rattle.chunk.specs.declared.Answer.the-variants as A
 use Rattle.chunk.specs.Chunks.{next}
-use Rattle.chunk.specs.Read.{idle, closed, holding, past, Held, none, held, heldOf, Answered, needMore, packet, refused, answerSaid, Done, Turned, stop, took, accepted, chunkAt, headed, turnFrom, turnOf, later, turns, opened, read}
+use Rattle.chunk.specs.Read.{idle, closed, holding, past, Held, none, held, heldOf, Answered, needMore, packet, refused, answerSaid, Done}
+use Rattle.chunk.specs.Read.{Turned, stop, took, accepted, chunkAt, headed, turnFrom, turnOf, later, turns, opened, read}
 
 -- ---- one chunk
 
@@ -186,7 +187,8 @@ same (suc f) (suc g) m x st u b hf hg =
     (λ k. t .more ≡ k
     → cond k (later (t .done .used) (turns f m x (t .done .next) (drop (t .done .used) u) (t .done .buf))) (t .done)
     ≡ cond k (later (t .done .used) (turns g m x (t .done .next) (drop (t .done .used) u) (t .done .buf))) (t .done)) [
-      | true ↦ λ e. ap (later (t .done .used)) (same f g m x (t .done .next) (drop (t .done .used) u) (t .done .buf) (rw length-drop (omega (arith, w .least e, w .most))) (rw length-drop (omega (arith, w .least e, w .most))))
+      | true ↦ λ e. ap (later (t .done .used)) (same f g m x (t .done .next) (drop (t .done .used) u) (t .done .buf)
+          (rw length-drop (omega (arith, w .least e, w .most))) (rw length-drop (omega (arith, w .least e, w .most))))
       | false ↦ λ e. refl
     ] refl
 
@@ -205,7 +207,8 @@ opened-more m x st u b e =
     let w = turn-uses m x st u b in
     rw e
     (ap (later (t .done .used))
-    (same (length u) (suc (length (drop (t .done .used) u))) m x (t .done .next) (drop (t .done .used) u) (t .done .buf) (rw length-drop (omega (arith, w .least e, w .most))) (omega arith)))
+    (same (length u) (suc (length (drop (t .done .used) u))) m x (t .done .next) (drop (t .done .used) u) (t .done .buf)
+    (rw length-drop (omega (arith, w .least e, w .most))) (omega arith)))
 
 -- a call is its first turn's
 pub opened-as : (m : ℕ) (x : Tolerance) (st st′ : PlainPacketCodec) (u b b′ : List ℕ) → turnOf m x st u b ≡ turnOf m x st′ u b′

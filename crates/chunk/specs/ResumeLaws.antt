@@ -15,8 +15,10 @@ use borrow.Author.Tests.{lt-ltb, le-ltb}
 use Rattle.wire.specs.Le.{leOf, leAt}
 use Rattle.chunk.specs.declared.PlainPacketCodec.{PlainPacketCodec}
 use Rattle.chunk.specs.declared.Tolerance.{Tolerance}
-use Rattle.chunk.specs.Read.{closed, holding, Held, none, held, heldOf, Answered, needMore, packet, refused, Done, Turned, accepted, stop, took, chunkAt, headed, turnOf, opened, later, read}
-use Rattle.chunk.specs.ReadLaws.{by-test, tookMore, tookLast, Kept, turn-ends, headed-empty, headed-large, headed-held, chunk-short, turn-short, turn-headed, turn-held, turn-uses, opened-stop, opened-more, opened-as, read-closed, read-open}
+use Rattle.chunk.specs.Read.{closed, holding, Held, none, held, heldOf, Answered, needMore, packet, refused, Done, Turned, accepted, stop, took}
+use Rattle.chunk.specs.Read.{chunkAt, headed, turnOf, opened, later, read}
+use Rattle.chunk.specs.ReadLaws.{by-test, tookMore, tookLast, Kept, turn-ends, headed-empty, headed-large, headed-held, chunk-short, turn-short}
+use Rattle.chunk.specs.ReadLaws.{turn-headed, turn-held, turn-uses, opened-stop, opened-more, opened-as, read-closed, read-open}
 
 -- how many bytes the first of the unread chunks takes: by the header that is remembered, or by its own
 abbrev pub wanted : Held → List ℕ → ℕ
@@ -53,7 +55,8 @@ unfolding chunkAt
 chunk-says m x st len num u b h =
     rw (le-ltb _ _ h)
     (by-test Says (accepted x (st .number) num) _ (stop (refused 3) (closed st) b)
-    (λ _. by-test Says (ltb (length b) (st .taken + len)) (stop (refused 6) st b) (took m st len num u b) (λ _. refused-says 6 st b) (λ _. took-says m st len num u b))
+    (λ _. by-test Says (ltb (length b) (st .taken + len)) (stop (refused 6) st b) (took m st len num u b) (λ _. refused-says 6 st b)
+    (λ _. took-says m st len num u b))
     (λ _. refused-says 3 (closed st) b))
 
 -- ---- a turn, with more behind
@@ -68,7 +71,8 @@ record Grown (m : ℕ) (x : Tolerance) (st : PlainPacketCodec) (u v b : List ℕ
 
 module _ (m : ℕ) (x : Tolerance) (u v b : List ℕ) where
   -- it wants bytes, and the state that it leaves reads on as the one before
-  wants-grown : (st st′ : PlainPacketCodec) → (length u < wanted (heldOf st′) u) × (length u < wanted (heldOf st) u) → turnOf m x st (u ++ v) b ≡ turnOf m x st′ (u ++ v) b
+  wants-grown : (st st′ : PlainPacketCodec) → (length u < wanted (heldOf st′) u) × (length u < wanted (heldOf st) u) → turnOf m x st (u ++ v) b
+      ≡ turnOf m x st′ (u ++ v) b
       → Grown m x st u v b (stop needMore st′ b)
   wants-grown st st′ w e = record {
     goes = λ k. absurd (let z : _≡_ {A = ℕ} 0 1 = cc in omega arith);
@@ -119,16 +123,19 @@ module _ (m : ℕ) (x : Tolerance) (u v b : List ℕ) where
           | yes z ↦
               let n : len ≡ 0 = omega arith in
               let o : turnOf m x st (u ++ v) b ≡ chunkAt m x st 0 num (u ++ v) b = on ∙ headed-empty m x st len num (u ++ v) b n in
-              rw (headed-empty m x st len num u b n) (let w : wanted (heldOf st) u ≡ 0 + 4 = rw e (ap (λ (j : ℕ). j + 4) n) in chunk-grown st st 0 num (w, w) o o)
+              rw (headed-empty m x st len num u b n) (let w : wanted (heldOf st) u ≡ 0 + 4 = rw e
+              (ap (λ (j : ℕ). j + 4) n) in chunk-grown st st 0 num (w, w) o o)
           | no z ↦
               let n : len ≡ 0 → ⊥ = λ y. z (omega arith) in
               elim (decLe (st .taken + len) (st .limit)) [
                 | yes l ↦
                     rw (headed-held m x st len num u b n l)
-                    (chunk-grown st (holding st len num) len num (refl, rw e) (on ∙ headed-held m x st len num (u ++ v) b n l) (turn-held m x (holding st len num) (u ++ v) b len num refl))
+                    (chunk-grown st (holding st len num) len num (refl, rw e) (on ∙ headed-held m x st len num (u ++ v) b n l)
+                    (turn-held m x (holding st len num) (u ++ v) b len num refl))
                 | no l ↦
                     rw (headed-large m x st len num u b n (omega arith))
-                    (says-grown st (stop (refused 2) (closed st) b) (refused-says 2 (closed st) b) (on ∙ headed-large m x st len num (u ++ v) b n (omega arith)))
+                    (says-grown st (stop (refused 2) (closed st) b) (refused-says 2 (closed st) b)
+                    (on ∙ headed-large m x st len num (u ++ v) b n (omega arith)))
               ]
         ]
 

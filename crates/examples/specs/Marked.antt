@@ -95,7 +95,9 @@ pub record Marked : Type 0 where
       ≡ record { said = gives (record { nulls = 2; used = 11 }); starts = 3 ∷ 3 ∷ 4 ∷ 5 ∷ 6 ∷ 7 ∷ 8 ∷ 9 ∷ 10 ∷ 11 ∷ 7 ∷ 7 ∷ [] }
 
 pub marked : Marked
-unfolding lenBytes leBytes leOf byteStrAt partOf since just timeAt timeOf durationOf durationAt behind becomes body quoted kindOf dateOf binAt skipAt nullBit nullCount nullAt countAt colAt walk valuesOf rowOf chunks chunksOf pieces cut numbered chunk flatten next after turnFrom turnOf turns opened read unreadOf headed frameFrom frameAt drained lapAt laps running readFramed
+unfolding lenBytes leBytes leOf byteStrAt partOf since just timeAt timeOf durationOf durationAt behind becomes body quoted kindOf dateOf binAt skipAt
+    nullBit nullCount nullAt countAt colAt walk valuesOf rowOf chunks chunksOf pieces cut numbered chunk flatten next after turnFrom turnOf turns
+    opened read unreadOf headed frameFrom frameAt drained lapAt laps running readFramed
 marked = record {
   E1 = refl;
   E1-next = refl;

@@ -16,7 +16,21 @@ use Rattle.frame.specs.Read.{Done, took, bodyAt, headed, frameFrom, fram
 use Rattle.frame.specs.declared.PacketCodec.{PacketCodec}
 
 abbrev pub start : PacketCodec
-start = record { limit = 4; taken = 0; len = 0; unread = 0; size = 0; number = 0; waiting = false; ahead = 0; closed = false; frame = 0; held = false; coming = 0; framed = true }
+start = record {
+  limit = 4;
+  taken = 0;
+  len = 0;
+  unread = 0;
+  size = 0;
+  number = 0;
+  waiting = false;
+  ahead = 0;
+  closed = false;
+  frame = 0;
+  held = false;
+  coming = 0;
+  framed = true;
+}
 
 abbrev pub four : List ℕ
 four = 0x41 ∷ 0x42 ∷ 0x43 ∷ 0x44 ∷ []
@@ -42,6 +56,7 @@ pub corner : (sent₁ .buf ≡ 4 ∷ 0 ∷ 0 ∷ 0 ∷ 0 ∷ 0 ∷ 0 ∷ 4 ∷ 0
     × (read₁ .next .number ≡ 1)
     × (sent₁ .next .number ≡ 2)
     × (read₂ .answer ≡ refused 3)
-unfolding writeFramed readFramed running laps lapAt drained frameAt frameFrom headed bodyAt took unreadOf pieceOf frame ceil split numberedFrames framesOf frames framesNeed framesAfter
+unfolding writeFramed readFramed running laps lapAt drained frameAt frameFrom headed bodyAt took unreadOf pieceOf frame ceil split numberedFrames
+    framesOf frames framesNeed framesAfter
     chunks chunksOf pieces cut numbered chunk next needed leOf leBytes flatten P.read P.opened P.turns P.turnOf P.turnFrom P.headed P.chunkAt P.took
 corner = (refl, refl, refl, refl, refl, refl)

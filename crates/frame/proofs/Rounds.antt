@@ -60,7 +60,14 @@ module _ (c : PacketCodec) (s b b′ : List ℕ) (last : ℕ) (st : PlainPacketC
       ap (take (c .unread - r .used)) l ∙ take-at q (drop (0 + length q) s) (c .unread - r .used) lq ∙ sym (drop-take (r .used) (c .unread) s)
 
   abbrev made : P.Done → Done
-  made d = record { answer = d .answer; used = 0; next = withPlain c (d .next) (c .unread - d .used); unread = drop (d .used) (take (c .unread) s); buf = d .buf }
+  made d = record {
+    answer = d .answer;
+    used = 0;
+    next = withPlain c (d .next) (c .unread - d .used);
+    unread = drop (d .used)
+        (take (c .unread) s);
+    buf = d .buf;
+  }
 
   pub drain-is : (next : PacketCodec) (s′ : List ℕ) → last ≡ lastNumber (c .frame) → next ≡ withPlain c (r .next) (c .unread - r .used)
       → s′ ≡ patch s 0 (take (c .unread - r .used) (drop (r .used) s))
@@ -68,14 +75,22 @@ module _ (c : PacketCodec) (s b b′ : List ℕ) (last : ℕ) (st : PlainPacketC
   unfolding drained unreadOf
   drain-is next s′ k n l =
       ap (λ (x : PacketCodec). doneOf (record { answer = r .answer; used = 0; next = x }) s′ b′) n
-      ∙ ap (λ (w : List ℕ). record { answer = P.answerSaid (r .answer); used = 0; next = withPlain c (r .next) (c .unread - r .used); unread = w; buf = b′ }) (front s′ l)
+      ∙ ap (λ (w : List ℕ). record {
+        answer = P.answerSaid (r .answer);
+        used = 0;
+        next = withPlain c (r .next)
+            (c .unread - r .used);
+        unread = w;
+        buf = b′;
+      }) (front s′ l)
       ∙ ap made (e ∙ ap (λ (j : ℕ). P.read largest (Also j) (plainOf c) (take (c .unread) s) b) k)
 
 -- ---- a round, from what the plain reader gave
 
 module _ (c : PacketCodec) (u s b s₁ b₁ : List ℕ) (d : FrameDecoded) (e : doneOf d s₁ b₁ ≡ drained largest c (unreadOf c s) b) where
   pub less : d .next .unread ≤ c .unread
-  less = let n : d .next .unread ≡ drained largest c (unreadOf c s) b .next .unread = ap (λ (x : Done). x .next .unread) e in omega (arith, n, drained-less largest c (unreadOf c s) b)
+  less = let n : d .next .unread ≡ drained largest c (unreadOf c s) b .next .unread = ap (λ (x : Done). x .next .unread) e in omega
+      (arith, n, drained-less largest c (unreadOf c s) b)
 
   says : (t : Bool) → asks (P.answerSaid (d .answer)) ≡ t → asks (drained largest c (unreadOf c s) b .answer) ≡ t
   says t a = sym (ap (λ (x : Done). asks (x .answer)) e) ∙ a

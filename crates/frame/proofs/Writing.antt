@@ -13,7 +13,8 @@ use Rattle.wire.specs.RoomLaws.{patch-append, patch-cons, length-patch}
 use Rattle.chunk.specs.Chunks.{largest, next, chunks, needed}
 use Rattle.chunk.specs.ChunksLaws.{length-chunks}
 use Rattle.frame.specs.Frames.{frame, ceil, frames, framesNeed, framesAfter}
-use Rattle.frame.specs.FramesLaws.{ceil-last, ceil-more, ceil-some, frames-last, frames-more, need-last, need-more, frames-after-last, frames-after-more, frameHead, length-head, frame-is, length-frame, length-frames}
+use Rattle.frame.specs.FramesLaws.{ceil-last, ceil-more, ceil-some, frames-last, frames-more, need-last, need-more, frames-after-last}
+use Rattle.frame.specs.FramesLaws.{frames-after-more, frameHead, length-head, frame-is, length-frame, length-frames}
 use Rattle.frame.specs.Write.{pieceOf, total}
 use Rattle.frame.specs.WriteLaws.{piece-some}
 use Rattle.frame.proofs.Moves.{take-patch, drop-patch, drop-take}
@@ -143,7 +144,8 @@ module _ (d₀ : List ℕ) (k₀ total c : ℕ) (d : List ℕ) (left out from k 
       let one = ceil-last left c (h .some) m in
       let F : List ℕ = frames c k₀ (take total (drop (7 * ceil total c) d₀)) in
       let lt : length (take total (drop (7 * ceil total c) d₀)) ≡ total = rw (length-take, length-drop) (omega arith) in
-      let lF : length F ≡ framesNeed c total = length-frames c k₀ (take total (drop (7 * ceil total c) d₀)) (h .piece) (omega (arith, lt)) ∙ ap (framesNeed c) lt in
+      let lF : length F ≡ framesNeed c total = length-frames c k₀ (take total (drop (7 * ceil total c) d₀)) (h .piece) (omega (arith, lt)) ∙ ap
+      (framesNeed c) lt in
       let end : out + length (frame k rest) ≡ from + left = omega (arith, fl, h .counted, one) in
       let some : 0 < length rest = rw rest-long (h .some) in
       let most : length rest ≤ c = rw rest-long m in (
@@ -173,12 +175,14 @@ packet-put c k q n count p d d₁ d₂ pos e some g r e₁ e₂ =
     let z : drop gap d₁ ≡ s ++ drop (gap + length s) d =
     ap (drop gap) (e₁ ∙ append-assoc (take gap d) s (drop (gap + length s) d)) ∙ lib.Seq.drop-at (take gap d) (s ++ drop (gap + length s) d) gap lt in
     let t : take n (drop gap d₁) ≡ s = ap (take n) z ∙ take-at s (drop (gap + length s) d) n ls in
-    let b : drop (0 + length F) d₁ ≡ drop (0 + length F) d = ap (drop (0 + length F)) e₁ ∙ drop-patch d gap s (0 + length F) (omega arith) (omega (arith, ls, lF, g)) in
+    let b : drop (0 + length F) d₁ ≡ drop (0 + length F) d = ap (drop (0 + length F)) e₁ ∙ drop-patch d gap s (0 + length F) (omega arith)
+    (omega (arith, ls, lF, g)) in
     e₂ ∙ ap (λ (x : List ℕ). patch d₁ 0 (frames c k x)) t ∙ ap (λ (x : List ℕ). F ++ x) b
 
 -- ---- the bytes that writing needs, as the code counts them
 
-pub total-is : (limit len n piece count : ℕ) → n ≡ needed largest len → piece ≡ pieceOf largest limit → count ≡ ceil n piece → n + 7 * count ≡ total largest limit len
+pub total-is : (limit len n piece count : ℕ) → n ≡ needed largest len → piece ≡ pieceOf largest limit → count ≡ ceil n piece → n + 7 * count
+    ≡ total largest limit len
 unfolding framesNeed
 total-is limit len n piece count e g h = rw (h, g, e)
 

@@ -66,7 +66,8 @@ past-fits st num n h = record { taken = h; held = λ len num e. absurd (zero-one
 refused-calm : (u b : List ℕ) (k : ℕ) (st : PlainPacketCodec) → Fits st → (k ≡ 6 → ⊥) → CalmTurn (st .limit) (length b) u (P.stop (refused k) st b)
 refused-calm u b k st f z = record { limit = refl; fits = f; buffer = refl; never = not-six k z; few = λ _ e. absurd (zero-one (cc e)) }
 
-took-calm : (m : ℕ) (st : PlainPacketCodec) (len num : ℕ) (u b : List ℕ) → Fits st → st .taken + len ≤ st .limit → st .taken + len ≤ length b → len + 4 ≤ length u
+took-calm : (m : ℕ) (st : PlainPacketCodec) (len num : ℕ) (u b : List ℕ) → Fits st → st .taken + len ≤ st .limit → st .taken + len ≤ length b
+    → len + 4 ≤ length u
     → CalmTurn (st .limit) (length b) u (P.took m st len num u b)
 unfolding P.took
 took-calm m st len num u b f h r l =
@@ -74,7 +75,14 @@ took-calm m st len num u b f h r l =
     let lq : length q ≡ len = rw (length-take, length-drop) (omega arith) in
     let lb : length (patch b (st .taken) q) ≡ length b = length-patch b (st .taken) q (omega (arith, lq)) in
     by-test (CalmTurn (st .limit) (length b) u) (eqb len m) (tookMore st len num u b) (tookLast st len num u b)
-    (λ _. record { limit = refl; fits = past-fits st num (st .taken + len) h; buffer = lb; never = λ e. zero-one (cc e); few = λ k _. absurd (zero-one (cc k)) })
+    (λ _. record {
+      limit = refl;
+      fits = past-fits st num (st .taken + len) h;
+      buffer = lb;
+      never = λ e. zero-one (cc e);
+      few = λ k _. absurd
+          (zero-one (cc k));
+    })
     (λ _. record { limit = refl; fits = past-fits st num 0 (omega arith); buffer = lb; never = λ e. zero-one (cc e); few = λ _ e. absurd (zero-one (cc e)) })
 
 chunk-calm : (m : ℕ) (x : Tolerance) (st : PlainPacketCodec) (len num : ℕ) (u b : List ℕ) → Fits st → st .taken + len ≤ st .limit → st .limit ≤ length b
@@ -103,7 +111,8 @@ from-calm m x st P.none u b e f r =
     (λ t. let t′ = ltb-false (st .limit) (st .taken + len) t in chunk-calm m x (holding st len num) len num u b (hold-fits st len num f t′) t′ r)))
 from-calm m x st (P.held len num) u b e f r = chunk-calm m x st len num u b f (f .held len num e) r
 
-turn-calm : (m : ℕ) (x : Tolerance) (st : PlainPacketCodec) (u b : List ℕ) → Fits st → st .limit ≤ length b → CalmTurn (st .limit) (length b) u (turnOf m x st u b)
+turn-calm : (m : ℕ) (x : Tolerance) (st : PlainPacketCodec) (u b : List ℕ) → Fits st → st .limit ≤ length b → CalmTurn (st .limit) (length b) u
+    (turnOf m x st u b)
 unfolding turnOf
 turn-calm m x st u b f r = from-calm m x st (heldOf st) u b refl f r
 
@@ -117,7 +126,8 @@ turns-calm (suc f) m x st u b h g r =
     let w = turn-uses m x st u b in
     by-test (Calm (st .limit) (length b) u) (t .more) _ (t .done)
     (λ k.
-    let i = turns-calm f m x (t .done .next) (drop (t .done .used) u) (t .done .buf) (rw length-drop (omega (arith, w .least k, w .most))) (c .fits) (rw (c .limit, c .buffer) r) in
+    let i = turns-calm f m x (t .done .next) (drop (t .done .used) u) (t .done .buf) (rw length-drop (omega (arith, w .least k, w .most))) (c .fits)
+    (rw (c .limit, c .buffer) r) in
     record {
       limit = i .limit ∙ c .limit;
       fits = i .fits;
@@ -127,7 +137,8 @@ turns-calm (suc f) m x st u b h g r =
     })
     (λ k. record { limit = c .limit; fits = c .fits; buffer = c .buffer; never = c .never; few = c .few k })
 
-pub read-calm : (m : ℕ) (x : Tolerance) (st : PlainPacketCodec) (u b : List ℕ) → Fits st → st .limit ≤ length b → Calm (st .limit) (length b) u (read m x st u b)
+pub read-calm : (m : ℕ) (x : Tolerance) (st : PlainPacketCodec) (u b : List ℕ) → Fits st → st .limit ≤ length b → Calm (st .limit) (length b) u
+    (read m x st u b)
 unfolding read opened
 read-calm m x st u b f r =
     by-test (Calm (st .limit) (length b) u) (st .closed) (record { answer = refused 7; used = 0; next = st; buf = b }) _
@@ -197,9 +208,11 @@ module _ (u w : List ℕ) (room : ℕ) (b : List ℕ) where
       (λ t. let t′ = ltb-false (c .limit) len t in
       by-test S (ltb (c .limit) plain) (F.stop (refused 2) (closed c) w b) _ (λ _. refuses c 2 g e (λ z. omega arith))
       (λ _. by-test S (eqb len 0) _ _
-      (λ _. by-test S (eqb plain 0) _ (F.stop (refused 4) (closed c) w b) (λ _. body-still c 0 num g e (omega arith) few r) (λ _. refuses c 4 g e (λ z. omega arith)))
+      (λ _. by-test S (eqb plain 0) _ (F.stop (refused 4) (closed c) w b) (λ _. body-still c 0 num g e (omega arith) few r)
+      (λ _. refuses c 4 g e (λ z. omega arith)))
       (λ _. by-test S (eqb plain 0) _ (F.stop (refused 5) (closed c) w b)
-      (λ _. body-still (holdingFrame c len num) len num (record { plain = g .plain; frame = λ len′ num′ z. (let y : len ≡ len′ = cc z in omega arith); few = g .few }) e t′ few r)
+      (λ _. body-still (holdingFrame c len num) len num
+      (record { plain = g .plain; frame = λ len′ num′ z. (let y : len ≡ len′ = cc z in omega arith); few = g .few }) e t′ few r)
       (λ _. refuses c 5 g e (λ z. omega arith))))))
   from-still c (C.held len num) k g e few r = body-still c len num g e (g .frame len num k) few r
 
@@ -229,7 +242,8 @@ asks-more needMore e = refl
 asks-more (packet n) e = absurd (zero-one (cc e))
 asks-more (refused n) e = absurd (zero-one (cc e))
 
-lap-still : (m : ℕ) (c : PacketCodec) (u w : List ℕ) (room : ℕ) (b : List ℕ) → Good c → length w ≡ c .unread → c .limit + c .limit + 3 ≤ room → c .limit ≤ length b
+lap-still : (m : ℕ) (c : PacketCodec) (u w : List ℕ) (room : ℕ) (b : List ℕ) → Good c → length w ≡ c .unread → c .limit + c .limit + 3 ≤ room
+    → c .limit ≤ length b
     → StillLap (c .limit) (length b) (lapAt m c u w room b)
 unfolding lapAt
 lap-still m c u w room b g e r h =
@@ -243,7 +257,8 @@ lap-still m c u w room b g e r h =
     record { limit = f .limit ∙ z; good = f .good; never = f .never; counted = f .counted; buffer = f .buffer ∙ k .0 .buffer })
     (λ _. k .0)
 
-laps-still : (f m : ℕ) (c : PacketCodec) (u w : List ℕ) (room : ℕ) (b : List ℕ) → Good c → length w ≡ c .unread → c .limit + c .limit + 3 ≤ room → c .limit ≤ length b
+laps-still : (f m : ℕ) (c : PacketCodec) (u w : List ℕ) (room : ℕ) (b : List ℕ) → Good c → length w ≡ c .unread → c .limit + c .limit + 3 ≤ room
+    → c .limit ≤ length b
     → Still (c .limit) (length b) (laps f m c u w room b)
 unfolding laps
 laps-still zero m c u w room b g e r h = record { limit = refl; good = g; never = λ z. zero-one (cc z); counted = e; buffer = refl }
@@ -251,15 +266,31 @@ laps-still (suc f) m c u w room b g e r h =
     let t = lapAt m c u w room b in
     let k = lap-still m c u w room b g e r h in
     let z = k .limit in
-    by-test (Still (c .limit) (length b)) (t .more) (later (t .done .used) (laps f m (t .done .next) (drop (t .done .used) u) (t .done .unread) room (t .done .buf))) (t .done)
+    by-test (Still (c .limit) (length b)) (t .more)
+    (later (t .done .used) (laps f m (t .done .next) (drop (t .done .used) u) (t .done .unread) room (t .done .buf))) (t .done)
     (λ _.
-    let i = laps-still f m (t .done .next) (drop (t .done .used) u) (t .done .unread) room (t .done .buf) (k .good) (k .counted) (rw z r) (rw (z, k .buffer) h) in
+    let i = laps-still f m (t .done .next) (drop (t .done .used) u) (t .done .unread) room (t .done .buf) (k .good) (k .counted) (rw z r)
+    (rw (z, k .buffer) h) in
     record { limit = i .limit ∙ z; good = i .good; never = i .never; counted = i .counted; buffer = i .buffer ∙ k .buffer })
     (λ _. k)
 
 -- an opened codec, whether frames are on or not
 pub first-good : (limit number frame : ℕ) (on : Bool)
-    → Good (record { limit = limit; taken = 0; len = 0; unread = 0; size = 0; number = number; waiting = false; ahead = 0; closed = false; frame = frame; held = false; coming = 0; framed = on })
+    → Good (record {
+      limit = limit;
+      taken = 0;
+      len = 0;
+      unread = 0;
+      size = 0;
+      number = number;
+      waiting = false;
+      ahead = 0;
+      closed = false;
+      frame = frame;
+      held = false;
+      coming = 0;
+      framed = on;
+    })
 first-good limit number frame on = record {
   plain = record { taken = omega arith; held = λ len num e. absurd (zero-one (cc e)) };
   frame = λ len num e. absurd (zero-one (cc e));

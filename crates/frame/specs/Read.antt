@@ -42,7 +42,17 @@ stop a c w b = record { more = false; done = record { answer = a; used = 0; next
 
 -- a frame of len bytes is taken: its bytes follow the unread ones, "Then round again"
 unfoldable pub took : PacketCodec → (len : ℕ) (u w b : List ℕ) → Lap
-took c len u w b = record { more = true; done = record { answer = needMore; used = len + 7; next = pastFrame c len; unread = w ++ take len (drop 7 u); buf = b } }
+took c len u w b = record {
+  more = true;
+  done = record {
+    answer = needMore;
+    used = len + 7;
+    next = pastFrame c len;
+    unread = w ++ take len
+        (drop 7 u);
+    buf = b;
+  };
+}
 
 -- "wait for the whole frame; 3; 6 (unread + length exceeds staging)"
 unfoldable pub bodyAt : PacketCodec → (len num : ℕ) (u w : List ℕ) (room : ℕ) (b : List ℕ) → Lap

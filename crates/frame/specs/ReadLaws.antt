@@ -158,8 +158,10 @@ from-uses c none u w room b g =
     (λ _. by-test P (ltb (c .limit) len) (stop (refused 2) (closed c) w b) _ (λ _. stop-uses u room (refused 2) (closed c) w b g)
     (λ _. by-test P (ltb (c .limit) plain) (stop (refused 2) (closed c) w b) _ (λ _. stop-uses u room (refused 2) (closed c) w b g)
     (λ _. by-test P (eqb len 0) _ _
-    (λ _. by-test P (eqb plain 0) _ (stop (refused 4) (closed c) w b) (λ _. body-uses c 0 num u w room b g) (λ _. stop-uses u room (refused 4) (closed c) w b g))
-    (λ _. by-test P (eqb plain 0) _ (stop (refused 5) (closed c) w b) (λ _. body-uses (holdingFrame c len num) len num u w room b g) (λ _. stop-uses u room (refused 5) (closed c) w b g)))))
+    (λ _. by-test P (eqb plain 0) _ (stop (refused 4) (closed c) w b) (λ _. body-uses c 0 num u w room b g)
+    (λ _. stop-uses u room (refused 4) (closed c) w b g))
+    (λ _. by-test P (eqb plain 0) _ (stop (refused 5) (closed c) w b) (λ _. body-uses (holdingFrame c len num) len num u w room b g)
+    (λ _. stop-uses u room (refused 5) (closed c) w b g)))))
 from-uses c (held len num) u w room b g = body-uses c len num u w room b g
 
 pub frame-uses : (c : PacketCodec) (u w : List ℕ) (room : ℕ) (b : List ℕ) → c .unread ≤ room → Uses u room (frameAt c u w room b)
@@ -197,7 +199,8 @@ same (suc f) (suc g) m c u w room b i hf hg =
     (λ k. t .more ≡ k
     → cond k (later (t .done .used) (laps f m (t .done .next) (drop (t .done .used) u) (t .done .unread) room (t .done .buf))) (t .done)
     ≡ cond k (later (t .done .used) (laps g m (t .done .next) (drop (t .done .used) u) (t .done .unread) room (t .done .buf))) (t .done)) [
-      | true ↦ λ e. ap (later (t .done .used)) (same f g m (t .done .next) (drop (t .done .used) u) (t .done .unread) room (t .done .buf) (v .within) (rw length-drop (omega (arith, v .least e, v .most))) (rw length-drop (omega (arith, v .least e, v .most))))
+      | true ↦ λ e. ap (later (t .done .used)) (same f g m (t .done .next) (drop (t .done .used) u) (t .done .unread) room (t .done .buf) (v .within)
+          (rw length-drop (omega (arith, v .least e, v .most))) (rw length-drop (omega (arith, v .least e, v .most))))
       | false ↦ λ e. refl
     ] refl
 
@@ -209,17 +212,20 @@ running-stop m c u w room b e = rw e
 pub running-more : (m : ℕ) (c : PacketCodec) (u w : List ℕ) (room : ℕ) (b : List ℕ) → c .unread ≤ room → lapAt m c u w room b .more ≡ true
     → running m c u w room b
     ≡ later (lapAt m c u w room b .done .used)
-    (running m (lapAt m c u w room b .done .next) (drop (lapAt m c u w room b .done .used) u) (lapAt m c u w room b .done .unread) room (lapAt m c u w room b .done .buf))
+    (running m (lapAt m c u w room b .done .next) (drop (lapAt m c u w room b .done .used) u) (lapAt m c u w room b .done .unread) room
+    (lapAt m c u w room b .done .buf))
 unfolding running laps
 running-more m c u w room b i e =
     let t = lapAt m c u w room b in
     let v = lap-uses m c u w room b i in
     rw e
     (ap (later (t .done .used))
-    (same (length u) (suc (length (drop (t .done .used) u))) m (t .done .next) (drop (t .done .used) u) (t .done .unread) room (t .done .buf) (v .within) (rw length-drop (omega (arith, v .least e, v .most))) (omega arith)))
+    (same (length u) (suc (length (drop (t .done .used) u))) m (t .done .next) (drop (t .done .used) u) (t .done .unread) room (t .done .buf)
+    (v .within) (rw length-drop (omega (arith, v .least e, v .most))) (omega arith)))
 
 -- a round that uses nothing was the last one, and one that uses some bytes was not
-more-by : (t : Lap) (k : Bool) (u : List ℕ) (room : ℕ) → t .more ≡ k → Uses u room t → (t .done .used ≡ 0 → t .more ≡ false) × ((t .done .used ≡ 0 → ⊥) → t .more ≡ true)
+more-by : (t : Lap) (k : Bool) (u : List ℕ) (room : ℕ) → t .more ≡ k → Uses u room t → (t .done .used ≡ 0 → t .more ≡ false) ×
+    ((t .done .used ≡ 0 → ⊥) → t .more ≡ true)
 more-by t true u room e v = (λ z. absurd (omega (arith, v .least e, z)), λ _. e)
 more-by t false u room e v = (λ _. e, λ z. absurd (z (v .nothing e)))
 

@@ -22,7 +22,9 @@ use Rattle.chunk.specs.declared.Tolerance.{Tolerance}
 use Rattle.chunk.specs.declared.Tolerance.the-variants.{Also}
 use Rattle.frame.specs.Codec.{plainOf, closed, holdingFrame, FrameHeld, none, held, frameHeldOf, unreadOf, lastNumber}
 use Rattle.frame.specs.Read.{Done, Lap, stop, took, bodyAt, headed, frameAt, drained, asks, lapAt, later, laps, running, untouched, readFramed}
-use Rattle.frame.specs.ReadLaws.{body-short, headed-large, headed-full, headed-empty, headed-bad, headed-held, headed-packed, frame-short, frame-headed, frame-held, lap-frame, lap-stop, lap-uses, running-stop, running-more, framed-closed, framed-no-room, framed-open}
+use Rattle.frame.specs.ReadLaws.{body-short, headed-large, headed-full, headed-empty, headed-bad, headed-held, headed-packed, frame-short}
+use Rattle.frame.specs.ReadLaws.{frame-headed, frame-held, lap-frame, lap-stop, lap-uses, running-stop, running-more, framed-closed}
+use Rattle.frame.specs.ReadLaws.{framed-no-room, framed-open}
 use Rattle.frame.specs.declared.PacketCodec.{PacketCodec}
 
 zero-one : _≡_ {A = ℕ} 0 1 → ⊥
@@ -93,7 +95,8 @@ module _ (u v w : List ℕ) (room : ℕ) (b : List ℕ) where
         ∙ ap (λ (k : ℕ). headed c len k (leAt (u ++ v) 4 3) (u ++ v) w room b) (List·getD-append u v 0 3 (omega arith))
         ∙ ap (λ (x : List ℕ). headed c len num (leOf x) (u ++ v) w room b) (ap (take 3) d ∙ take-append-le 3 (drop 4 u) v l)
 
-    refuses : (k : ℕ) → headed c len num plain u w room b ≡ stop (refused k) (closed c) w b → headed c len num plain (u ++ v) w room b ≡ stop (refused k) (closed c) w b
+    refuses : (k : ℕ) → headed c len num plain u w room b ≡ stop (refused k) (closed c) w b → headed c len num plain (u ++ v) w room b ≡ stop
+        (refused k) (closed c) w b
         → Grows c u v w room b (headed c len num plain u w room b)
     refuses k x y = rw x (on (same ∙ y) (refused-says k (closed c) w b))
 
@@ -109,7 +112,8 @@ module _ (u v w : List ℕ) (room : ℕ) (b : List ℕ) where
                   elim (decLe plain 0) [
                     | yes y ↦
                         let k : plain ≡ 0 = omega arith in
-                        let o : frameAt c (u ++ v) w room b ≡ bodyAt c 0 num (u ++ v) w room b = same ∙ headed-empty c len num plain (u ++ v) w room b l g n k in
+                        let o : frameAt c (u ++ v) w room b ≡ bodyAt c 0 num (u ++ v) w room b = same ∙ headed-empty c len num plain
+                        (u ++ v) w room b l g n k in
                         rw (headed-empty c len num plain u w room b l g n k) (body-grows c c 0 num refl refl refl o o)
                     | no y ↦
                         let k : plain ≡ 0 → ⊥ = λ x. y (omega arith) in
@@ -168,7 +172,8 @@ module _ (m : ℕ) (c : PacketCodec) (w b : List ℕ) (a : drained m c w b .answ
   drained-again c′ p f =
       let x = Also (lastNumber (c .frame)) in
       let R = read m x (plainOf c) w b in
-      let e : read m (Also (lastNumber (c′ .frame))) (plainOf c′) (drop (R .used) w) (R .buf) ≡ record { answer = needMore; used = 0; next = plainOf c′; buf = R .buf } =
+      let e : read m (Also (lastNumber (c′ .frame))) (plainOf c′) (drop (R .used) w) (R .buf)
+      ≡ record { answer = needMore; used = 0; next = plainOf c′; buf = R .buf } =
       ap (λ (k : ℕ). read m (Also (lastNumber k)) (plainOf c′) (drop (R .used) w) (R .buf)) f
       ∙ ap (λ (s : PlainPacketCodec). read m x s (drop (R .used) w) (R .buf)) p
       ∙ again m x (plainOf c) w b a
@@ -210,7 +215,8 @@ module _ (m : ℕ) (v : List ℕ) (room : ℕ) where
     lap-is : lapAt m c u w room b ≡ t
     lap-is = lap-frame m c u w room b a
 
-    waiting : (c′ : PacketCodec) → t ≡ stop needMore c′ (d .unread) (d .buf) → plainOf c′ ≡ plainOf (d .next) → c′ .frame ≡ d .next .frame → c′ .unread ≡ d .next .unread
+    waiting : (c′ : PacketCodec) → t ≡ stop needMore c′ (d .unread) (d .buf) → plainOf c′ ≡ plainOf (d .next) → c′ .frame ≡ d .next .frame
+        → c′ .unread ≡ d .next .unread
         → frameAt (d .next) (u ++ v) (d .unread) room (d .buf) ≡ frameAt c′ (u ++ v) (d .unread) room (d .buf)
         → Resumes m c u v w room b (running m c u w room b)
     waiting c′ e p f n x =
@@ -219,7 +225,8 @@ module _ (m : ℕ) (v : List ℕ) (room : ℕ) where
         lap-frame m c′ (u ++ v) (d .unread) room (d .buf) (rw s) ∙ rw s in
         let l : lapAt m c (u ++ v) w room b ≡ lapAt m c′ (u ++ v) (d .unread) room (d .buf) = lap-frame m c (u ++ v) w room b a ∙ x ∙ sym y in
         let q : lapAt m c u w room b ≡ stop needMore c′ (d .unread) (d .buf) = lap-is ∙ e in
-        let o : running m c u w room b ≡ record { answer = needMore; used = 0; next = c′; unread = d .unread; buf = d .buf } = running-stop m c u w room b (rw q) ∙ rw q in
+        let o : running m c u w room b ≡ record { answer = needMore; used = 0; next = c′; unread = d .unread; buf = d .buf } =
+        running-stop m c u w room b (rw q) ∙ rw q in
         let i : c′ .unread ≤ room = (let k = lap-uses m c u w room b g .within in rw q at k) in
         rw o
         (record {
@@ -229,7 +236,8 @@ module _ (m : ℕ) (v : List ℕ) (room : ℕ) where
         })
 
     going : frameAt (d .next) (u ++ v) (d .unread) room (d .buf) ≡ t → t .more ≡ true
-        → Resumes m (t .done .next) (drop (t .done .used) u) v (t .done .unread) room (t .done .buf) (running m (t .done .next) (drop (t .done .used) u) (t .done .unread) room (t .done .buf))
+        → Resumes m (t .done .next) (drop (t .done .used) u) v (t .done .unread) room (t .done .buf)
+        (running m (t .done .next) (drop (t .done .used) u) (t .done .unread) room (t .done .buf))
         → Resumes m c u v w room b (running m c u w room b)
     going x k r =
         let z = lap-uses m c u w room b g in
@@ -237,7 +245,8 @@ module _ (m : ℕ) (v : List ℕ) (room : ℕ) where
         running-more m c u w room b g (rw lap-is k) ∙ rw lap-is in
         let l : lapAt m c (u ++ v) w room b ≡ t = lap-frame m c (u ++ v) w room b a ∙ x in
         let n : t .done .used ≤ length u = rw lap-is at (z .most) in
-        let j : running m c (u ++ v) w room b ≡ later (t .done .used) (running m (t .done .next) (drop (t .done .used) (u ++ v)) (t .done .unread) room (t .done .buf)) =
+        let j : running m c (u ++ v) w room b ≡ later (t .done .used)
+        (running m (t .done .next) (drop (t .done .used) (u ++ v)) (t .done .unread) room (t .done .buf)) =
         running-more m c (u ++ v) w room b g (rw l k) ∙ rw l in
         rw o
         (record {
@@ -247,7 +256,8 @@ module _ (m : ℕ) (v : List ℕ) (room : ℕ) where
         })
 
   by-grows : (c : PacketCodec) (u w b : List ℕ) → (g : c .unread ≤ room) (a : asks (drained m c w b .answer) ≡ true)
-      → (t c u w b g a .more ≡ true → running m (t c u w b g a .done .next) (drop (t c u w b g a .done .used) u) (t c u w b g a .done .unread) room (t c u w b g a .done .buf) .answer ≡ needMore
+      → (t c u w b g a .more ≡ true → running m (t c u w b g a .done .next) (drop (t c u w b g a .done .used) u) (t c u w b g a .done .unread) room
+      (t c u w b g a .done .buf) .answer ≡ needMore
       → Resumes m (t c u w b g a .done .next) (drop (t c u w b g a .done .used) u) v (t c u w b g a .done .unread) room (t c u w b g a .done .buf)
       (running m (t c u w b g a .done .next) (drop (t c u w b g a .done .used) u) (t c u w b g a .done .unread) room (t c u w b g a .done .buf)))
       → running m c u w room b .answer ≡ needMore → (k : Bool) → t c u w b g a .more ≡ k
@@ -282,7 +292,8 @@ module _ (m : ℕ) (v : List ℕ) (room : ℕ) where
             let l = lap-is c u w b g a in
             by-grows c u w b g a
             (λ e. go f (t c u w b g a .done .next) (drop (t c u w b g a .done .used) u) (t c u w b g a .done .unread) (t c u w b g a .done .buf)
-            (let n : 7 ≤ t c u w b g a .done .used = rw l at (z .least (rw l e)) in let n′ : t c u w b g a .done .used ≤ length u = rw l at (z .most) in rw length-drop (omega arith))
+            (let n : 7 ≤ t c u w b g a .done .used = rw l at (z .least (rw l e)) in let n′ : t c u w b g a .done .used ≤ length u = rw l at
+            (z .most) in rw length-drop (omega arith))
             (rw l at (z .within)))
             q (t c u w b g a .more) refl (grows u v (d c u w b g a .unread) room (d c u w b g a .buf) (d c u w b g a .next))
         | false ↦ λ a. absurd (stopped c u w b a q)

@@ -140,7 +140,14 @@ between on st k = record {
 
 -- what reading frames of a stream s leaves, where the plain reader on all the bytes gives d
 abbrev outcome : Bool → ℕ → ℕ → List ℕ → P.Done → Done
-outcome on c k s d = record { answer = d .answer; used = framesNeed c (length s); next = between on (d .next) (framesAfter c k (length s)); unread = []; buf = d .buf }
+outcome on c k s d = record {
+  answer = d .answer;
+  used = framesNeed c (length s);
+  next = between on (d .next)
+      (framesAfter c k (length s));
+  unread = [];
+  buf = d .buf;
+}
 
 drained-strict : (m : ℕ) (st : PacketCodec) (w b : List ℕ) → st .closed ≡ false → (opened m Strict (plainOf st) w b .answer ≡ refused 3 → ⊥)
     → drained m st w b ≡ record {
@@ -169,7 +176,19 @@ module _ (m c : ℕ) (pos : 0 < c) (most : c ≤ largest) (r : List ℕ) (room n
       let s : asks (drained m st w b .answer) ≡ false = rw (z, a) in
       let l = lap-stop m st r w room b s in
       let y : st .unread - length w ≡ 0 = omega arith in
-      rw (running-stop m st r w room b (rw l), l, z, us, y, hc .none, hc .size, hc .coming, drop-of-length-le w {i = length w} (omega arith), no-need c, no-after c (st .frame) hk)
+      rw (
+        running-stop m st r w room b (rw l),
+        l,
+        z,
+        us,
+        y,
+        hc .none,
+        hc .size,
+        hc .coming,
+        drop-of-length-le w {i = length w} (omega arith),
+        no-need c,
+        no-after c (st .frame) hk,
+      )
 
   -- one round of a stream s that is not empty: the plain reader wants more, and a frame is taken
   module _ (st : PacketCodec) (w s b : List ℕ) (hc : Idle st) (hu : st .unread ≡ length w) (ho : st .closed ≡ false) (lim : c ≤ st .limit)
@@ -214,7 +233,8 @@ module _ (m c : ℕ) (pos : 0 < c) (most : c ≤ largest) (r : List ℕ) (room n
     lap-is =
         let z = drained-strict m st w b ho (λ e. zero-one (let y : needMore ≡ refused 3 = sym a ∙ e in cc y)) in
         let g : asks (drained m st w b .answer) ≡ true = rw (z, a) in
-        let t = takes st′ (st .frame) q rest w′ room (d .buf) (record { none = hc .none; size = hc .size; coming = hc .coming }) refl q-some (omega (arith, q-long)) (omega (arith, q-long, lim′)) (omega (arith, hu, q-within)) in
+        let t = takes st′ (st .frame) q rest w′ room (d .buf) (record { none = hc .none; size = hc .size; coming = hc .coming }) refl q-some
+        (omega (arith, q-long)) (omega (arith, q-long, lim′)) (omega (arith, hu, q-within)) in
         lap-frame m st u w room b g ∙ rw (z, u-is, t)
 
     goes : running m st u w room b ≡ later (length q + 7) (running m (pastFrame st′ (length q)) rest (w′ ++ q) room (d .buf))
@@ -226,7 +246,8 @@ module _ (m c : ℕ) (pos : 0 < c) (most : c ≤ largest) (r : List ℕ) (room n
     whole-is : opened m Strict (plainOf st) (w ++ s) b ≡ P.later (d .used) (opened m Strict (d .next) ((w′ ++ q) ++ drop c s) (d .buf))
     whole-is = rw joined (opened-resume m Strict s (plainOf st) w b a)
 
-    step : running m (pastFrame st′ (length q)) rest (w′ ++ q) room (d .buf) ≡ outcome (st .framed) c (next (st .frame)) (drop c s) (opened m Strict (d .next) ((w′ ++ q) ++ drop c s) (d .buf))
+    step : running m (pastFrame st′ (length q)) rest (w′ ++ q) room (d .buf) ≡ outcome (st .framed) c (next (st .frame)) (drop c s)
+        (opened m Strict (d .next) ((w′ ++ q) ++ drop c s) (d .buf))
         → running m st u w room b ≡ outcome (st .framed) c (st .frame) s (opened m Strict (plainOf st) (w ++ s) b)
     step ih = rw (goes, ih, whole-is, need-step c (st .frame) s pos some, after-step c (st .frame) s pos some)
 
@@ -257,7 +278,8 @@ module _ (m c : ℕ) (pos : 0 < c) (most : c ≤ largest) (r : List ℕ) (room n
   none st w (x ∷ s) b h hc hu hk ho a us = absurd (not-suc-le-zero h)
 
   -- the frames of a stream s, read where the unread bytes and s are all of a packet
-  frames-read : (f : ℕ) (st : PacketCodec) (w s b : List ℕ) → length s ≤ f → Idle st → st .unread ≡ length w → st .frame < 256 → st .closed ≡ false → c ≤ st .limit
+  frames-read : (f : ℕ) (st : PacketCodec) (w s b : List ℕ) → length s ≤ f → Idle st → st .unread ≡ length w → st .frame < 256 → st .closed ≡ false
+      → c ≤ st .limit
       → length w + length s ≤ room
       → opened m Strict (plainOf st) (w ++ s) b .answer ≡ packet n → opened m Strict (plainOf st) (w ++ s) b .used ≡ length (w ++ s)
       → running m st (frames c (st .frame) s ++ r) w room b ≡ outcome (st .framed) c (st .frame) s (opened m Strict (plainOf st) (w ++ s) b)
@@ -301,7 +323,16 @@ pub record Ready (m c : ℕ) (st : PacketCodec) (p : List ℕ) : Type 0 where
 -- the codec after it
 abbrev pub readPast : ℕ → ℕ → PacketCodec → List ℕ → PacketCodec
 readPast m c st p =
-    between (st .framed) (record { limit = st .limit; taken = 0; len = 0; number = after m (st .number) (length p); waiting = false; ahead = 0; closed = st .closed })
+    between (st .framed) (record {
+      limit = st .limit;
+      taken = 0;
+      len = 0;
+      number = after m (st .number)
+          (length p);
+      waiting = false;
+      ahead = 0;
+      closed = st .closed;
+    })
     (framesAfter c (st .frame) (needed m (length p)))
 
 pub written-is-read : (m c : ℕ) (st : PacketCodec) (p r s b : List ℕ) → Ready m c st p → needed m (length p) ≤ length s → length p ≤ length b
@@ -320,7 +351,8 @@ written-is-read m c st p r s b h room fits =
     opened-chunks m Strict (h .small) (h .most) (plainOf st) p [] b (h .idle) (omega (arith, h .start, h .within)) (omega (arith, h .start)) in
     let e′ : opened m Strict (plainOf st) t b ≡ whole m (plainOf st) p b = rw (append-nil t) at e in
     let z : 0 + length p ≡ length p = omega arith in
-    let f = frames-read m c (h .piece) (h .pieces) r (length s) (length p) (length t) st [] t b (omega arith) (h .clear) (h .none) (h .number) (h .live) (h .frames) (omega arith)
+    let f = frames-read m c (h .piece) (h .pieces) r (length s) (length p) (length t) st [] t b (omega arith) (h .clear) (h .none) (h .number)
+    (h .live) (h .frames) (omega arith)
     (rw (e′, h .start, z)) (rw e′ (sym lt)) in
     framed-open m st (frames c (st .frame) t ++ r) s b (h .live) (omega (arith, h .none))
     ∙ ap (λ (w : List ℕ). running m st (frames c (st .frame) t ++ r) w (length s) b) (ap (λ (j : ℕ). take j s) (h .none))
@@ -328,7 +360,8 @@ written-is-read m c st p r s b h room fits =
     ∙ rw (e′, lt, h .start, z)
 
 -- what the writer leaves in a buffer, lent whole to a reader with the same numbers
-pub sent-is-read : (m : ℕ) (w st : PacketCodec) (p d s b : List ℕ) → w .closed ≡ false → (w .limit ≡ 0 → ⊥) → length p ≤ w .limit → total m (w .limit) (length p) ≤ length d
+pub sent-is-read : (m : ℕ) (w st : PacketCodec) (p d s b : List ℕ) → w .closed ≡ false → (w .limit ≡ 0 → ⊥) → length p ≤ w .limit → total m
+    (w .limit) (length p) ≤ length d
     → w .frame ≡ st .frame → w .number ≡ st .number → Ready m (pieceOf m (w .limit)) st p → needed m (length p) ≤ length s → length p ≤ length b
     → readFramed m st (writeFramed m w p d .buf) s b ≡ record {
       answer = packet (length p);

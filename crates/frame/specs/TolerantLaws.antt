@@ -10,8 +10,10 @@ use lib.ListN.{length, take, drop, getD}
 use lib.Dec.{ltb, eqb}
 use borrow.Author.Tests.{lt-ltb, le-ltb}
 use Rattle.wire.specs.Le.{leAt}
-use Rattle.chunk.specs.Read.{needMore, refused, Held, none, held, heldOf, Done, Turned, closed, holding, accepted, stop, took, chunkAt, headed, turnFrom, turnOf, turns, opened, later}
-use Rattle.chunk.specs.ReadLaws.{by-test, tookMore, tookLast, chunk-short, chunk-sync, headed-empty, headed-large, headed-held, turn-short, turn-headed, turn-held}
+use Rattle.chunk.specs.Read.{needMore, refused, Held, none, held, heldOf, Done, Turned, closed, holding, accepted, stop, took, chunkAt, headed}
+use Rattle.chunk.specs.Read.{turnFrom, turnOf, turns, opened, later}
+use Rattle.chunk.specs.ReadLaws.{by-test, tookMore, tookLast, chunk-short, chunk-sync, headed-empty, headed-large, headed-held, turn-short}
+use Rattle.chunk.specs.ReadLaws.{turn-headed, turn-held}
 use Rattle.chunk.specs.declared.PlainPacketCodec.{PlainPacketCodec}
 use Rattle.chunk.specs.declared.Tolerance.{Tolerance}
 use Rattle.chunk.specs.declared.Tolerance.the-variants.{Strict, Also}
@@ -47,8 +49,10 @@ module _ (m : ℕ) (x : Tolerance) (u b : List ℕ) where
         | no z ↦
             let n : len ≡ 0 → ⊥ = λ y. z (omega arith) in
             elim (decLe (st .taken + len) (st .limit)) [
-              | yes l ↦ let e = headed-held m Strict st len num u b n l in headed-held m x st len num u b n l ∙ chunk-tolerant (holding st len num) len num (rw e at f) ∙ sym e
-              | no l ↦ let l′ : st .limit < st .taken + len = omega arith in headed-large m x st len num u b n l′ ∙ sym (headed-large m Strict st len num u b n l′)
+              | yes l ↦ let e = headed-held m Strict st len num u b n l in headed-held m x st len num u b n l ∙ chunk-tolerant
+                  (holding st len num) len num (rw e at f) ∙ sym e
+              | no l ↦ let l′ : st .limit < st .taken + len = omega arith in headed-large m x st len num u b n l′ ∙ sym
+                  (headed-large m Strict st len num u b n l′)
             ]
       ]
 
@@ -58,7 +62,8 @@ module _ (m : ℕ) (x : Tolerance) (u b : List ℕ) where
         | yes h ↦ let z = turn-headed m Strict st u b e h in turn-headed m x st u b e h ∙ headed-tolerant st (leAt u 0 3) (getD u 3 0) (rw z at f) ∙ sym z
         | no h ↦ let h′ : length u < 4 = omega arith in turn-short m x st u b e h′ ∙ sym (turn-short m Strict st u b e h′)
       ]
-  from-tolerant st (held len num) e f = let z = turn-held m Strict st u b len num e in turn-held m x st u b len num e ∙ chunk-tolerant st len num (rw z at f) ∙ sym z
+  from-tolerant st (held len num) e f = let z = turn-held m Strict st u b len num e in turn-held m x st u b len num e ∙ chunk-tolerant st len num
+      (rw z at f) ∙ sym z
 
   turn-tolerant : (st : PlainPacketCodec) → Fine (turnOf m Strict st u b) → turnOf m x st u b ≡ turnOf m Strict st u b
   turn-tolerant st f = from-tolerant st (heldOf st) refl f
@@ -71,7 +76,8 @@ turns-tolerant (suc f) m x st u b h =
     let t = turnOf m Strict st u b in
     elim (t .more) as (λ k. t .more ≡ k → turns (suc f) m x st u b ≡ turns (suc f) m Strict st u b) [
       | true ↦ λ e.
-          let z : turnOf m x st u b ≡ t = turn-tolerant m x u b st (λ g _. (let y : true ≡ false = sym e ∙ g in let q : _≡_ {A = ℕ} 0 1 = cc y in omega arith)) in
+          let z : turnOf m x st u b ≡ t = turn-tolerant m x u b st
+          (λ g _. (let y : true ≡ false = sym e ∙ g in let q : _≡_ {A = ℕ} 0 1 = cc y in omega arith)) in
           let i = turns-tolerant f m x (t .done .next) (drop (t .done .used) u) (t .done .buf) (λ y. h (rw e y)) in
           rw (z, e, i)
       | false ↦ λ e. let z : turnOf m x st u b ≡ t = turn-tolerant m x u b st (λ _ y. h (rw e y)) in rw (z, e)
@@ -117,7 +123,8 @@ turns-limit zero m x st u b = refl
 turns-limit (suc f) m x st u b =
     let t = turnOf m x st u b in
     let k : t .done .next .limit ≡ st .limit = turn-limit m x st u b in
-    by-test (λ (d : Done). d .next .limit ≡ st .limit) (t .more) (later (t .done .used) (turns f m x (t .done .next) (drop (t .done .used) u) (t .done .buf))) (t .done)
+    by-test (λ (d : Done). d .next .limit ≡ st .limit) (t .more)
+    (later (t .done .used) (turns f m x (t .done .next) (drop (t .done .used) u) (t .done .buf))) (t .done)
     (λ _. turns-limit f m x (t .done .next) (drop (t .done .used) u) (t .done .buf) ∙ k)
     (λ _. k)
 

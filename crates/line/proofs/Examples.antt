@@ -49,7 +49,8 @@ pub all-come : serves [] (singles (arrived (written 3 254 both) (0 ∷ 1 ∷ 2 �
       unread = [];
       buffer = 9 ∷ 9 ∷ 9 ∷ 9 ∷ 9 ∷ 9 ∷ 9 ∷ 9 ∷ [];
     }
-unfolding written writer arrived chunksOf numbered pieces cut after chunk leBytes next flatten serve calls callsUpTo read opened turns turnOf turnFrom headed chunkAt took leOf
+unfolding written writer arrived chunksOf numbered pieces cut after chunk leBytes next flatten serve calls callsUpTo read opened turns turnOf turnFrom
+    headed chunkAt took leOf
 all-come = refl
 
 -- chunk 3, the first of ABC, is lost: the first packet, then 3 at chunk 4, which is empty, then 7 for each later piece
@@ -57,7 +58,8 @@ pub one-lost :
     (serves [] (arrived (written 3 254 both) (0 ∷ 1 ∷ 2 ∷ 4 ∷ []) ∷ (1 ∷ []) ∷ [] ∷ []) .events ≡ handed abcdefg ∷ refusal 3 ∷ refusal 7 ∷ refusal 7 ∷ [])
     × (complete 3 both 3 ≡ abcdefg ∷ [])
     × (refusalOf 3 254 8 both (0 ∷ 1 ∷ 2 ∷ 4 ∷ []) 3 ≡ 3)
-unfolding written writer complete begun arrived chunksOf numbered pieces cut after chunk leBytes next flatten serve calls callsUpTo read opened turns turnOf turnFrom headed chunkAt took leOf
+unfolding written writer complete begun arrived chunksOf numbered pieces cut after chunk leBytes next flatten serve calls callsUpTo read opened turns
+    turnOf turnFrom headed chunkAt took leOf
 one-lost = (refl, refl, refl)
 
 -- chunk 1 comes twice: after six bytes of the packet three more are over the limit, which is 2, at its header
@@ -65,7 +67,8 @@ pub one-twice :
     (serves [] (singles (arrived (written 3 254 both) (0 ∷ 1 ∷ 1 ∷ []))) .events ≡ refusal 2 ∷ refusal 7 ∷ refusal 7 ∷ refusal 7 ∷ [])
     × (complete 3 both 2 ≡ [])
     × (refusalOf 3 254 8 both (0 ∷ 1 ∷ 1 ∷ []) 2 ≡ 2)
-unfolding written writer complete begun arrived chunksOf numbered pieces cut after chunk leBytes next flatten serve calls callsUpTo read opened turns turnOf turnFrom headed chunkAt took leOf
+unfolding written writer complete begun arrived chunksOf numbered pieces cut after chunk leBytes next flatten serve calls callsUpTo read opened turns
+    turnOf turnFrom headed chunkAt took leOf
 one-twice = (refl, refl, refl)
 
 -- ---- each of the demand's bounds is sharp: one further, and the reader does something else
@@ -76,24 +79,28 @@ pub last-one-twice :
     (serves [] (arrived (written 3 254 both) (0 ∷ 1 ∷ 2 ∷ 3 ∷ 3 ∷ []) ∷ []) .events ≡ handed abcdefg ∷ refusal 3 ∷ [])
     × (complete 3 both 5 ≡ both)
     × (begun 3 both 4 ≡ 3)
-unfolding written writer complete begun arrived chunksOf numbered pieces cut after chunk leBytes next flatten serve calls callsUpTo read opened turns turnOf turnFrom headed chunkAt took leOf
+unfolding written writer complete begun arrived chunksOf numbered pieces cut after chunk leBytes next flatten serve calls callsUpTo read opened turns
+    turnOf turnFrom headed chunkAt took leOf
 last-one-twice = (refl, refl, refl)
 
 -- a byte before the misplaced chunk is complete there is no refusal
 pub a-byte-early : serves [] ((3 ∷ 0 ∷ 0 ∷ 255 ∷ 0x44 ∷ 0x45 ∷ []) ∷ []) .events ≡ []
-unfolding written writer complete begun arrived chunksOf numbered pieces cut after chunk leBytes next flatten serve calls callsUpTo read opened turns turnOf turnFrom headed chunkAt took leOf
+unfolding written writer complete begun arrived chunksOf numbered pieces cut after chunk leBytes next flatten serve calls callsUpTo read opened turns
+    turnOf turnFrom headed chunkAt took leOf
 a-byte-early = refl
 
 -- a packet one byte over the limit; a buffer one byte below the limit, and a packet of that length
 pub a-byte-over :
     (serve (plainEnd 3 .reader) habit 0 (idle 6 254) [] buffer (flatten (written 3 254 both) ∷ []) .events ≡ refusal 2 ∷ [])
     × (serve (plainEnd 3 .reader) habit 0 (idle 7 254) [] (0 ∷ 0 ∷ 0 ∷ 0 ∷ 0 ∷ 0 ∷ []) (flatten (written 3 254 both) ∷ []) .events ≡ refusal 6 ∷ [])
-unfolding written writer complete begun arrived chunksOf numbered pieces cut after chunk leBytes next flatten serve calls callsUpTo read opened turns turnOf turnFrom headed chunkAt took leOf
+unfolding written writer complete begun arrived chunksOf numbered pieces cut after chunk leBytes next flatten serve calls callsUpTo read opened turns
+    turnOf turnFrom headed chunkAt took leOf
 a-byte-over = (refl, refl)
 
 -- 256 places off: the number comes again. Of 257 empty packets the last comes first, and is handed out
 pub comes-again : serves [] (arrived (written 3 254 (replicate 257 [])) (256 ∷ []) ∷ []) .events ≡ handed [] ∷ []
-unfolding written writer complete begun arrived chunksOf numbered pieces cut after chunk leBytes next flatten serve calls callsUpTo read opened turns turnOf turnFrom headed chunkAt took leOf
+unfolding written writer complete begun arrived chunksOf numbered pieces cut after chunk leBytes next flatten serve calls callsUpTo read opened turns
+    turnOf turnFrom headed chunkAt took leOf
 comes-again = refl
 
 -- ---- straight through

@@ -83,7 +83,8 @@ module _ (m : ℕ) (habit : Habit PlainPacketCodec) (pos : 0 < m) (fits : m ≤ 
       → Comes m habit l n₁ st₁ u₁ b₁ es k t x → Comes m habit l n st u b (handed p ∷ es) k t x
   comes-first {p = p} e (comes n′ b′ h c) = comes n′ b′ h (e ∙ ap (first (handed p)) c)
 
-  comes-zero : {l n k t : ℕ} {st : PlainPacketCodec} {u b x : List ℕ} {es : List Event} → Comes m habit l n st u b es k (0 + t) x → Comes m habit l n st u b es k t x
+  comes-zero : {l n k t : ℕ} {st : PlainPacketCodec} {u b x : List ℕ} {es : List Event} → Comes m habit l n st u b es k (0 + t) x
+      → Comes m habit l n st u b es k t x
   comes-zero c = rw zero-add at c
 
   -- the first i chunks of a packet, of m bytes each
@@ -106,7 +107,8 @@ module _ (m : ℕ) (habit : Habit PlainPacketCodec) (pos : 0 < m) (fits : m ≤ 
 
   module _ (l : ℕ) (acts : (st : PlainPacketCodec) → habit .acts st ≡ st) (lent : (n : ℕ) (d : List ℕ) → l ≤ length d → l ≤ length (habit .lends n d)) where
     abbrev Stream : ℕ → List (List ℕ) → ℕ → ℕ → List ℕ → List ℕ → Type 0
-    Stream k ps i n x b = Comes m habit l n (idle l k) (flatten (take i (written m k ps)) ++ x) b (map handed (complete m ps i)) ((k + i) % 256) (begun m ps i) x
+    Stream k ps i n x b = Comes m habit l n (idle l k) (flatten (take i (written m k ps)) ++ x) b (map handed (complete m ps i)) ((k + i) % 256)
+        (begun m ps i) x
 
     -- the first packet is among them, or only begun
     packet-first : (k : ℕ) (p : List ℕ) (ps : List (List ℕ)) (i n : ℕ) (x b : List ℕ) (z : Bool) → leb (count m p) i ≡ z → k < 256 → length p ≤ l → l ≤ length b

@@ -88,7 +88,8 @@ arrived-from cs o (suc i) (y ∷ a) hi ho h =
     (ap (λ (z : ℕ). getD cs z [] ++ flatten (take i (drop (suc o) cs))) (h 0 (omega arith) ∙ omega arith))
 
 -- arrivals in their places are the front of what was written
-pub arrived-in-place : (cs : List (List ℕ)) (i : ℕ) (a : List ℕ) → i ≤ length a → i ≤ length cs → ((j : ℕ) → j < i → getD a j 0 ≡ j) → arrived cs (take i a) ≡ flatten (take i cs)
+pub arrived-in-place : (cs : List (List ℕ)) (i : ℕ) (a : List ℕ) → i ≤ length a → i ≤ length cs → ((j : ℕ) → j < i → getD a j 0 ≡ j) → arrived cs
+    (take i a) ≡ flatten (take i cs)
 arrived-in-place cs i a hi ho h = arrived-from cs 0 i a hi (omega arith) (λ j hj. h j hj ∙ omega arith)
 
 pub reach : (n : ℕ) (a : List ℕ) (w : ℕ) → n ≤ length a → ((j : ℕ) → j < n → getD a j 0 ≡ j) → ((j : ℕ) → j < length a → getD a j 0 < w) → n ≤ w

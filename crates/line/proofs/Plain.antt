@@ -15,7 +15,8 @@ use Rattle.wire.specs.Room.{patch}
 use Rattle.chunk.specs.Chunks.{largest, next, chunk, chunks, needed, after}
 use Rattle.chunk.specs.ChunksLaws.{length-chunk, length-chunks}
 use Rattle.chunk.specs.Read.{idle, holding, closed, packet, refused, Done, Turned, stop, took, turnOf, opened, read}
-use Rattle.chunk.specs.ReadLaws.{by-test, tookMore, tookLast, took-more, turn-ends, turn-uses, turn-headed, headed-empty, headed-large, headed-held, chunk-sync, opened-stop, opened-more, opened-none, read-closed, read-open, read-uses}
+use Rattle.chunk.specs.ReadLaws.{by-test, tookMore, tookLast, took-more, turn-ends, turn-uses, turn-headed, headed-empty, headed-large, headed-held}
+use Rattle.chunk.specs.ReadLaws.{chunk-sync, opened-stop, opened-more, opened-none, read-closed, read-open, read-uses}
 use Rattle.chunk.specs.ResumeLaws.{by-turns, resume, stays}
 use Rattle.chunk.specs.RoundLaws.{header-length, header-number, payload, turn-chunk, whole, opened-chunks}
 use Rattle.chunk.specs.declared.PlainPacketCodec.{PlainPacketCodec}
@@ -84,7 +85,8 @@ module _ (m : ℕ) (habit : Habit PlainPacketCodec) where
   -- of no bytes nothing is seen
   pub calls-none : (n l k t : ℕ) (b : List ℕ) → calls r habit n (within l k t) [] b ≡ still n (within l k t) [] b
   calls-none n l k t b =
-      calls-wait r habit (steady m) n (within l k t) [] b _ (ap calledOf (read-open m Strict (within l k t) [] b refl ∙ opened-none m Strict (within l k t) b)) refl
+      calls-wait r habit (steady m) n (within l k t) [] b _
+      (ap calledOf (read-open m Strict (within l k t) [] b refl ∙ opened-none m Strict (within l k t) b)) refl
 
   -- ---- a chunk of m bytes in its place: the packet goes on behind it
 
@@ -101,7 +103,15 @@ module _ (m : ℕ) (habit : Habit PlainPacketCodec) where
         let d : drop (m + 4) u ≡ x = drop-at (chunk k q) x (m + 4) (length-chunk k q ∙ ap (λ (j : ℕ). j + 4) lq) in
         let bytes : take m (drop 4 u) ≡ q = ap (λ (j : ℕ). take j (drop 4 u)) (sym lq) ∙ payload k q x in
         calls-later r habit (steady m) n (m + 4) st (within l (next k) (t + m)) u x b (patch b t q) d
-        (rw (read-open m Strict st u b refl, opened-more m Strict st u b (rw w), w, d, bytes, read-open m Strict (within l (next k) (t + m)) x (patch b t q) refl))
+        (rw (
+          read-open m Strict st u b refl,
+          opened-more m Strict st u b (rw w),
+          w,
+          d,
+          bytes,
+          read-open m Strict (within l (next k) (t + m)) x
+              (patch b t q) refl,
+        ))
 
     -- ---- a whole packet in its place: it is handed out
 
@@ -111,7 +121,8 @@ module _ (m : ℕ) (habit : Habit PlainPacketCodec) where
     packet-handed acts n l k p x b lim room =
         let u : List ℕ = chunks m k p ++ x in
         let d : drop (needed m (length p)) u ≡ x = drop-at (chunks m k p) x (needed m (length p)) (length-chunks m k p pos) in
-        let bytes : take (0 + length p) (patch b 0 p) ≡ p = ap (λ (j : ℕ). take j (patch b 0 p)) (zero-add (length p)) ∙ take-append-seam p (drop (0 + length p) b) in
+        let bytes : take (0 + length p) (patch b 0 p) ≡ p = ap (λ (j : ℕ). take j (patch b 0 p)) (zero-add (length p)) ∙ take-append-seam p
+        (drop (0 + length p) b) in
         let e : read m Strict (idle l k) u b ≡ whole m (idle l k) p b =
         read-open m Strict (idle l k) u b refl ∙ opened-chunks m Strict pos fits (idle l k) p x b refl (rw zero-add lim) (omega arith) in
         calls-packet r habit (steady m) n (idle l k) u b (calledOf (whole m (idle l k) p b)) (0 + length p) (ap calledOf e) refl

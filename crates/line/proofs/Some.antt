@@ -14,7 +14,8 @@ use Rattle.wire.specs.Room.{putSaid}
 use Rattle.wire.specs.declared.Put.{Put}
 use Rattle.wire.specs.declared.Put.the-variants as P
 use Rattle.chunk.specs.Chunks.{largest, needed}
-use Rattle.chunk.specs.Read.{closed, holding, Held, none, held, heldOf, Answered, needMore, packet, refused, answerSaid, Done, Turned, stop, accepted, took, chunkAt, headed, turnFrom, turnOf, opened, read}
+use Rattle.chunk.specs.Read.{closed, holding, Held, none, held, heldOf, Answered, needMore, packet, refused, answerSaid, Done, Turned, stop, accepted}
+use Rattle.chunk.specs.Read.{took, chunkAt, headed, turnFrom, turnOf, opened, read}
 use Rattle.chunk.specs.ReadLaws.{by-test, tookMore, tookLast, opened-stop, opened-more}
 use Rattle.chunk.specs.ResumeLaws.{by-turns}
 use Rattle.chunk.specs.Write.{Sent, write, unsent}
@@ -96,7 +97,8 @@ unfolding write
 write-named m st p d =
     by-test (λ (s : Sent). putSaid (putOf (s .said)) ≡ s .said) (st .closed) (unsent 7 st d) _ (λ _. refl)
     (λ _. by-test (λ (s : Sent). putSaid (putOf (s .said)) ≡ s .said) (ltb (st .limit) (length p)) (unsent 2 st d) _ (λ _. refl)
-    (λ _. by-test (λ (s : Sent). putSaid (putOf (s .said)) ≡ s .said) (ltb (length d) (needed m (length p))) (unsent 6 st d) (sent m st p d) (λ _. refl) (λ _. refl)))
+    (λ _. by-test (λ (s : Sent). putSaid (putOf (s .said)) ≡ s .said) (ltb (length d) (needed m (length p))) (unsent 6 st d) (sent m st p d)
+    (λ _. refl) (λ _. refl)))
 
 pub some-encoder : (g : Encoder) × Encodes g
 some-encoder = (

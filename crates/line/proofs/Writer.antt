@@ -51,7 +51,8 @@ unfolding written writer flatten
 sends g h st st′ [] out none = (refl, refl)
 sends g h st st′ (p ∷ ps) out (more {out = out′} d n e rest) =
     let s : write largest st p d .said ≡ gives n = ap (λ (x : Sent). x .said) (sym (h st p d)) ∙ e in
-    let b : take n (g .leaves st p d) ≡ chunks largest (st .number) p = ap (λ (x : Sent). take n (x .buf)) (h st p d) ∙ front largest st p d n (omega arith) s in
+    let b : take n (g .leaves st p d) ≡ chunks largest (st .number) p = ap (λ (x : Sent). take n (x .buf)) (h st p d) ∙ front largest st p d n
+    (omega arith) s in
     let k : g .answers st p d .next .number ≡ after largest (st .number) (length p) = ap (λ (x : Sent). x .next .number) (h st p d ∙ gave largest st p d n s) in
     let i = sends g h (g .answers st p d .next) st′ ps out′ rest in (
       rw (b, i .0, k) (unfold chunks in sym (flatten-append (chunksOf largest (st .number) p) (written largest (after largest (st .number) (length p)) ps))),

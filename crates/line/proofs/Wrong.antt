@@ -89,7 +89,13 @@ onceBy (refused k) st = live st
 onceBy (packet n) st = spent
 
 onceReads : Reader Once
-onceReads (live st) u b = let d : Done = read 3 Strict st u b in record { answer = d .answer; used = d .used; next = onceBy (d .answer) (d .next); buf = d .buf }
+onceReads (live st) u b = let d : Done = read 3 Strict st u b in record {
+  answer = d .answer;
+  used = d .used;
+  next = onceBy (d .answer)
+      (d .next);
+  buf = d .buf;
+}
 onceReads spent u b = record { answer = needMore; used = 0; next = spent; buf = b }
 
 onceNumber : Once → ℕ

@@ -75,7 +75,8 @@ module _ {S : Type 0} (r : Reader S) (habit : Habit S) (law : Steady S r) where
       (λ len e.
       let t = law .takes st u b len e in
       let w = law .uses st u b in
-      bound (length u) (suc (length (drop (r st u b .used) u))) (suc n) (habit .acts (r st u b .next)) (drop (r st u b .used) u) (habit .lends n (r st u b .buf))
+      bound (length u) (suc (length (drop (r st u b .used) u))) (suc n) (habit .acts (r st u b .next)) (drop (r st u b .used) u)
+      (habit .lends n (r st u b .buf))
       (rw length-drop (omega arith)) (omega arith))
 
   pub calls-packet : (n : ℕ) (st : S) (u b : List ℕ) (c : Called S) (len : ℕ) → r st u b ≡ c → c .answer ≡ packet len
@@ -127,7 +128,8 @@ module _ {S : Type 0} (r : Reader S) (habit : Habit S) (law : Steady S r) where
       let w : calls r habit n st u b ≡ still n (c .next) (drop (c .used) u) (c .buf) = calls-wait n st u b c refl e in
       rw w
       (waits (sym (calls-later n (c .used) st (c .next) u (drop (c .used) u) b (c .buf) refl again) ∙ w)
-      (λ v. calls-later n (c .used) st (c .next) (u ++ v) (drop (c .used) u ++ v) b (c .buf) (drop-append-le (c .used) u v (law .uses st u b)) (law .resumes st u v b e)))
+      (λ v. calls-later n (c .used) st (c .next) (u ++ v) (drop (c .used) u ++ v) b (c .buf) (drop-append-le (c .used) u v (law .uses st u b))
+      (law .resumes st u v b e)))
   ending-by n st u b (refused k) e ih =
       let c = r st u b in
       rw (calls-refused n st u b c k refl e)
@@ -207,11 +209,13 @@ module _ {S : Type 0} (r : Reader S) (habit : Habit S) (law : Steady S r) where
       let i = ih w (rw (t (flatten cs)) at q) in (
         i .0,
         rw (e, t (flatten cs), i .1)
-            (sym (append-assoc (h .events) (calls r habit (h .packets) (h .state) (h .unread ++ flatten cs) (h .buffer) .events) (replicate (i .0) (refusal 7)))),
+            (sym (append-assoc (h .events) (calls r habit (h .packets) (h .state) (h .unread ++ flatten cs) (h .buffer) .events)
+            (replicate (i .0) (refusal 7)))),
       )
   shut-piece n st u c b cs h e (refuses w t) q ih = (
     length cs,
-    rw (e, t (flatten cs)) (ap (λ (es : List Event). h .events ++ es) (shut-serve (h .packets) (h .state) (h .unread) (h .buffer) cs (rw (t (flatten cs)) at q))),
+    rw (e, t (flatten cs)) (ap (λ (es : List Event). h .events ++ es)
+        (shut-serve (h .packets) (h .state) (h .unread) (h .buffer) cs (rw (t (flatten cs)) at q))),
   )
 
   -- the bytes as a whole close the reader: cut in pieces they bring the same, and after it 7 alone

@@ -235,7 +235,14 @@ module _ (s : List ℕ) (long : 128 ≤ length s) (byte : (i : ℕ) → getD s i
     at-rest = calm (omega arith) (w .idle)
 
     plain-call : readPacket largest (codecOf s) u g b
-        ≡ record { answer = packet (n - 4); used = n; next = codecOf next-chunk; unread = unreadOf (codecOf next-chunk) g; buf = patch b 0 (take (n - 4) (drop 4 u)) }
+        ≡ record {
+          answer = packet (n - 4);
+          used = n;
+          next = codecOf next-chunk;
+          unread = unreadOf (codecOf next-chunk) g;
+          buf = patch b 0
+              (take (n - 4) (drop 4 u));
+        }
     unfolding readPacket readPlain unreadOf next
     plain-call =
         let h = w .chunk in
@@ -294,11 +301,30 @@ module _ (s : List ℕ) (long : 128 ≤ length s) (byte : (i : ℕ) → getD s i
         }
 
     framed-call : readPacket largest (codecOf s) u g b
-        ≡ record { answer = packet (n - 11); used = n; next = codecOf next-frame; unread = unreadOf (codecOf next-frame) g; buf = patch b 0 (take (n - 11) (drop 11 u)) }
+        ≡ record {
+          answer = packet (n - 11);
+          used = n;
+          next = codecOf next-frame;
+          unread = unreadOf (codecOf next-frame) g;
+          buf = patch b 0
+              (take (n - 11) (drop 11 u));
+        }
     unfolding readPacket unreadOf next
     framed-call =
         let sum : leAt u 0 3 + 7 ≡ n = omega (arith, w .size, w .least) in
-        rw (calm-codec framed-rest, frame-codec framed-rest, framed-whole largest c u g b fits, header, number, w .chunk .number, payload, sum, w .rest .unread, w .rest .held, w .rest .coming) refl
+        rw (
+          calm-codec framed-rest,
+          frame-codec framed-rest,
+          framed-whole largest c u g b fits,
+          header,
+          number,
+          w .chunk .number,
+          payload,
+          sum,
+          w .rest .unread,
+          w .rest .held,
+          w .rest .coming,
+        ) refl
 
     pub reads-whole-frame : {old : ℕ} → Reads s u g b old 0 next-frame g (patch b 0 (take (n - 11) (drop 11 u))) n (n - 11)
     reads-whole-frame =

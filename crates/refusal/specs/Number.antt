@@ -4,7 +4,8 @@ use mathlib.Core.Path.{_≡_, refl, sym, ap, _∙_}
 use mathlib.Core.Bool.{cond}
 use lib.Dec.{eqb}
 use Rattle.refusal.specs.declared.Refusal.{Refusal}
-use Rattle.refusal.specs.declared.Refusal.the-variants.{BadLimit, TooLarge, OutOfSync, BadFrameHeader, Packed, NoRoom, Closed, Short, BadLead, BadType, OutOfRange, BadRow, BadColumns, BadPacket, BadLiteral, RowTooLong, TooManyRows}
+use Rattle.refusal.specs.declared.Refusal.the-variants.{BadLimit, TooLarge, OutOfSync, BadFrameHeader, Packed, NoRoom, Closed, Short, BadLead}
+use Rattle.refusal.specs.declared.Refusal.the-variants.{BadType, OutOfRange, BadRow, BadColumns, BadPacket, BadLiteral, RowTooLong, TooManyRows}
 
 abbrev pub number : Refusal → ℕ
 number BadLimit = 1

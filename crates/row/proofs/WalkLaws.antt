@@ -70,7 +70,8 @@ module _ (s map : List ℕ) (off : ℕ) (ts : List ℕ) where
     unfolding walk
     walk-more = let e : n - i ≡ suc (n - (i + 1)) = omega arith in rw e
 
-    pub walk-turn : (m : ℕ) → gives m ≡ colAt s map off ts i at → walk s map off ts i at (n - i) ≡ (let w = walk s map off ts (i + 1) m (n - (i + 1)) in record { starts = at ∷ w .starts; ends = w .ends })
+    pub walk-turn : (m : ℕ) → gives m ≡ colAt s map off ts i at → walk s map off ts i at (n - i) ≡
+        (let w = walk s map off ts (i + 1) m (n - (i + 1)) in record { starts = at ∷ w .starts; ends = w .ends })
     walk-turn m e = walk-more ∙ ap (onward at (λ j. walk s map off ts (i + 1) j (n - (i + 1)))) (sym e)
 
     pub walk-stop : (k : ℕ) → refused k ≡ colAt s map off ts i at → walk s map off ts i at (n - i) ≡ record { starts = at ∷ []; ends = refused k }
@@ -131,12 +132,14 @@ module _ (s map : List ℕ) (off : ℕ) (ts : List ℕ) (from : ℕ) (write : Bo
           let w = walk-turn s map off ts i at (length ts) h m (sym (ap endSaid e) ∙ col) in
           let l = walk s map off ts (i + 1) m (length ts - (i + 1)) .starts in record {
             ends-so = sym (ap (λ (x : Walk). x .ends) w) ∙ q .ends-so;
-            list-so = ap (λ (x : List ℕ). stores write x (i + 1) l) put ∙ stores-turn write d i at l ∙ sym (ap (λ (x : Walk). stores write d i (x .starts)) w) ∙ q .list-so;
+            list-so = ap (λ (x : List ℕ). stores write x (i + 1) l) put ∙ stores-turn write d i at l ∙ sym
+                (ap (λ (x : Walk). stores write d i (x .starts)) w) ∙ q .list-so;
           }
 
       pub pass-stops : length ts ≤ length d₀ → (k : Refusal) → r ≡ E.Refused k → Passed whole write d₀ (E.Refused k) d'
       pass-stops l k e =
           let w = walk-stop s map off ts i at (length ts) h (number k) (sym (ap endSaid e) ∙ col) in record {
             said = sym (ap (λ (x : Walk). x .ends) w) ∙ q .ends-so;
-            left = put ∙ sym (stores-none write (cond write (set d i at) d) (i + 1)) ∙ stores-turn write d i at [] ∙ sym (ap (λ (x : Walk). stores write d i (x .starts)) w) ∙ q .list-so ∙ done-over l;
+            left = put ∙ sym (stores-none write (cond write (set d i at) d) (i + 1)) ∙ stores-turn write d i at [] ∙ sym
+                (ap (λ (x : Walk). stores write d i (x .starts)) w) ∙ q .list-so ∙ done-over l;
           }

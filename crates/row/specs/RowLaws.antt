@@ -99,7 +99,8 @@ module _ (s map : List ℕ) (off : ℕ) (ts : List ℕ) where
 
   goes-by : (i at n used j : ℕ) (rest : ℕ → Walk) (x : Said ℕ) → colAt s map off ts i at ≡ x
       → ((m : ℕ) → rest m .ends ≡ gives used → getD (rest m .starts ++ used ∷ []) 0 0 ≡ m)
-      → ((m k : ℕ) → rest m .ends ≡ gives used → k < n → colAt s map off ts (i + 1 + k) (getD (rest m .starts) k 0) ≡ gives (getD (rest m .starts ++ used ∷ []) (k + 1) 0))
+      → ((m k : ℕ) → rest m .ends ≡ gives used → k < n → colAt s map off ts (i + 1 + k) (getD (rest m .starts) k 0) ≡ gives
+      (getD (rest m .starts ++ used ∷ []) (k + 1) 0))
       → onward at rest x .ends ≡ gives used → j < suc n
       → colAt s map off ts (i + j) (getD (onward at rest x .starts) j 0) ≡ gives (getD (onward at rest x .starts ++ used ∷ []) (j + 1) 0)
   goes-by i at n used zero rest (gives m) c first ih e h = rw (add-zero, c) (ap gives (sym (first m e)))
@@ -114,7 +115,8 @@ module _ (s map : List ℕ) (off : ℕ) (ts : List ℕ) where
   unfolding walk
   walk-goes i at zero used j e h = absurd (omega arith)
   walk-goes i at (suc n) used j e h =
-      goes-by i at n used j (λ m. walk s map off ts (i + 1) m n) (colAt s map off ts i at) refl (λ m. walk-first (i + 1) m n used) (λ m k. walk-goes (i + 1) m n used k) e h
+      goes-by i at n used j (λ m. walk s map off ts (i + 1) m n) (colAt s map off ts i at) refl (λ m. walk-first (i + 1) m n used)
+      (λ m k. walk-goes (i + 1) m n used k) e h
 
   -- and the last one ends within the bytes
   col-by : (i at m : ℕ) (b : Bool) → at ≤ length s → cond b (gives at) (skipAt s at (getD ts i 0)) ≡ gives m → m ≤ length s
@@ -196,7 +198,13 @@ module _ (s : List ℕ) (lead off : ℕ) (ts d : List ℕ) where
           (walk-within s map off ts 0 (lead + mapSize (length ts) off) (length ts) used fits (ends used e));
       begins = λ c q. rw (used-is (nullCount map off (length ts)) used c q .1, edges-are used e, is)
           (walk-first s map off ts 0 (lead + mapSize (length ts) off) (length ts) used (ends used e));
-      goes-on = λ c q j h. rw (used-is (nullCount map off (length ts)) used c q .1, edges-are used e, List·getD-append (w .starts) (drop (length (w .starts)) d) 0 j (rw (all used e) h), is)
+      goes-on = λ c q j h. rw (
+        used-is (nullCount map off (length ts)) used c q .1,
+        edges-are used e,
+        List·getD-append (w .starts)
+            (drop (length (w .starts)) d) 0 j (rw (all used e) h),
+        is,
+      )
           (rw zero-add at (walk-goes s map off ts 0 (lead + mapSize (length ts) off) (length ts) used j (ends used e) h));
     }
 

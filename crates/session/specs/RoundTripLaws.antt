@@ -16,7 +16,8 @@ use Rattle.wire.specs.declared.Put.{Put}
 use Rattle.wire.specs.declared.LenEncStr.{LenEncStr}
 use Rattle.session.specs.Record.{recordAt, recordOf, recordBytes, oneString, bytesOf, textOf, whole, isOne, pairBytes, pairAt, variableAt, end, pair}
 use Rattle.session.specs.RecordLaws.{str-in, variable-end, variable-pair, never, wrote-then, wrote-part}
-use Rattle.session.specs.RoundTrip.{Content, contentOf, schema, gtids, characteristics, state, unsupported, tracked, ReadsBack, NameValue, pairsBytes, Fit, gather}
+use Rattle.session.specs.RoundTrip.{Content, contentOf, schema, gtids, characteristics, state, unsupported, tracked, ReadsBack, NameValue}
+use Rattle.session.specs.RoundTrip.{pairsBytes, Fit, gather}
 use Rattle.session.specs.declared.Text.{Text}
 use Rattle.session.specs.declared.SystemVariable.{SystemVariable}
 use Rattle.session.specs.declared.SessionStateChange.{SessionStateChange}

@@ -25,7 +25,8 @@ pub date-len-le : (d : Date) → dateLength d ≤ 11
 unfolding dateLength
 date-len-le d =
     cond-le (eqb (d .micros) 0) _ 11 11
-    (cond-le (eqb (d .hour + d .minutes + d .seconds) 0) _ 7 11 (cond-le (eqb (d .year + d .month + d .day) 0) 0 4 11 (omega arith) (omega arith)) (omega arith))
+    (cond-le (eqb (d .hour + d .minutes + d .seconds) 0) _ 7 11 (cond-le (eqb (d .year + d .month + d .day) 0) 0 4 11 (omega arith) (omega arith))
+    (omega arith))
     (omega arith)
 
 pub time-len-le : (t : Time) → timeLength t ≤ 12
@@ -54,7 +55,8 @@ dated : (d : Date) {y m a h i s u : ℕ} → y ≡ d .year → m ≡ d .month �
     → record { year = y; month = m; day = a; hour = h; minutes = i; seconds = s; micros = u } ≡ d
 dated d e f g h i j k = rw (e, f, g, h, i, j, k)
 
-date-by : (d : Date) → DateFits d → (a b c : Bool) → eqb (d .micros) 0 ≡ a → eqb (d .hour + d .minutes + d .seconds) 0 ≡ b → eqb (d .year + d .month + d .day) 0 ≡ c
+date-by : (d : Date) → DateFits d → (a b c : Bool) → eqb (d .micros) 0 ≡ a → eqb (d .hour + d .minutes + d .seconds) 0 ≡ b → eqb
+    (d .year + d .month + d .day) 0 ≡ c
     → dateOf (take (cond a (cond b (cond c 0 4) 7) 11) (dateFields d)) ≡ d
 unfolding dateOf since just leOf leBytes
 date-by d l false b c e f g =
@@ -88,7 +90,15 @@ pub record TimeFits (t : Time) : Type 0 where
 -- what comes back of a time: "negative zero time .. loses its sign"
 abbrev pub timeBack : Time → Time
 timeBack t =
-    record { neg = cond (eqb (timeLength t) 0) false (t .neg); days = t .days; hours = t .hours; minutes = t .minutes; seconds = t .seconds; micros = t .micros }
+    record {
+      neg = cond (eqb (timeLength t) 0) false
+          (t .neg);
+      days = t .days;
+      hours = t .hours;
+      minutes = t .minutes;
+      seconds = t .seconds;
+      micros = t .micros;
+    }
 
 timed : (t : Time) (n : Bool) {n' : Bool} {d h i s u : ℕ} → n' ≡ n → d ≡ t .days → h ≡ t .hours → i ≡ t .minutes → s ≡ t .seconds → u ≡ t .micros
     → _≡_ {A = Time} (record { neg = n'; days = d; hours = h; minutes = i; seconds = s; micros = u })
@@ -102,7 +112,15 @@ sign-back false = refl
 
 time-by : (t : Time) → TimeFits t → (a b : Bool) → eqb (t .micros) 0 ≡ a → eqb (t .days + t .hours + t .minutes + t .seconds) 0 ≡ b
     → timeOf (take (cond a (cond b 0 8) 12) (timeFields t))
-    ≡ record { neg = cond (eqb (cond a (cond b 0 8) 12) 0) false (t .neg); days = t .days; hours = t .hours; minutes = t .minutes; seconds = t .seconds; micros = t .micros }
+    ≡ record {
+      neg = cond (eqb (cond a (cond b 0 8) 12) 0) false
+          (t .neg);
+      days = t .days;
+      hours = t .hours;
+      minutes = t .minutes;
+      seconds = t .seconds;
+      micros = t .micros;
+    }
 unfolding timeOf since just leOf leBytes
 time-by t l false b e f =
     let d = l .days in

@@ -179,7 +179,8 @@ module _ (s : List ℕ) (at : ℕ) (src t : List ℕ) where
   pub bytes-back : (from len T : ℕ) (u : Bool) → kindOf T ≡ K.Str → length (partOf src from len) < 2 ^ 64
       → drop at s ≡ valueBytes src (Of.Bytes from len) ++ t
       → (binAt s at T u
-      ≡ read (Of.Bytes (at + length (lenBytes (length (partOf src from len)))) (length (partOf src from len))) (at + length (valueBytes src (Of.Bytes from len))))
+      ≡ read (Of.Bytes (at + length (lenBytes (length (partOf src from len)))) (length (partOf src from len)))
+      (at + length (valueBytes src (Of.Bytes from len))))
       × (partOf s (at + length (lenBytes (length (partOf src from len)))) (length (partOf src from len)) ≡ partOf src from len)
   unfolding valueBytes
   bytes-back from len T u k h e = (str-value (partOf src from len) T u k h e, part-back s at (partOf src from len) t e)

@@ -44,15 +44,21 @@ add-at c =
     let t = c .before .before .before .before .before in
     let l = t .before .before .before in
     let a = l .before .before .before .before .args in
-    omega (arith, used-in (a .dst .now) (a .x) (a .src .now) (a .codec) (l .loop .dst) (l .loop .at) (l .loop .st) (l .loop .inv) (turnedOf (t .turn .result) (t .turn .last .0)) (t .turn .ensures))
+    omega (
+      arith,
+      used-in (a .dst .now) (a .x) (a .src .now) (a .codec) (l .loop .dst) (l .loop .at) (l .loop .st) (l .loop .inv)
+          (turnedOf (t .turn .result) (t .turn .last .0)) (t .turn .ensures),
+    )
 
 loop-less : tie.Need-loop-less Inv-loop μ-loop
 loop-less c =
     let t = c .before .before .before .before .before .before in
     let l = t .before .before .before in
     let a = l .before .before .before .before .args in
-    let u = used-in (a .dst .now) (a .x) (a .src .now) (a .codec) (l .loop .dst) (l .loop .at) (l .loop .st) (l .loop .inv) (turnedOf (t .turn .result) (t .turn .last .0)) (t .turn .ensures) in
-    let s = used-some (a .dst .now) (a .x) (a .src .now) (a .codec) (l .loop .dst) (l .loop .at) (l .loop .st) (l .loop .inv) (turnedOf (t .turn .result) (t .turn .last .0)) (t .turn .ensures) (c .if2 .taken) in
+    let u = used-in (a .dst .now) (a .x) (a .src .now) (a .codec) (l .loop .dst) (l .loop .at) (l .loop .st) (l .loop .inv)
+    (turnedOf (t .turn .result) (t .turn .last .0)) (t .turn .ensures) in
+    let s = used-some (a .dst .now) (a .x) (a .src .now) (a .codec) (l .loop .dst) (l .loop .at) (l .loop .st) (l .loop .inv)
+    (turnedOf (t .turn .result) (t .turn .last .0)) (t .turn .ensures) (c .if2 .taken) in
     omega (arith, u, s)
 
 loop-again : tie.Need-loop-again Inv-loop μ-loop
@@ -60,7 +66,8 @@ loop-again c =
     let t = c .before .before .before .before .before .before in
     let l = t .before .before .before in
     let a = l .before .before .before .before .args in
-    head-more (a .dst .now) (a .x) (a .src .now) (a .codec) (l .loop .dst) (l .loop .at) (l .loop .st) (l .loop .inv) (turnedOf (t .turn .result) (t .turn .last .0)) (t .turn .ensures) (c .if2 .taken) (t .turn .kept .0)
+    head-more (a .dst .now) (a .x) (a .src .now) (a .codec) (l .loop .dst) (l .loop .at) (l .loop .st) (l .loop .inv)
+    (turnedOf (t .turn .result) (t .turn .last .0)) (t .turn .ensures) (c .if2 .taken) (t .turn .kept .0)
 
 same-length : tie.Need-same-length Inv-loop μ-loop
 same-length c =
@@ -72,7 +79,8 @@ returns-2 c =
     let t = c .before .before .before .before .before .before in
     let l = t .before .before .before in
     let a = l .before .before .before .before .args in
-    head-last (a .dst .now) (a .x) (a .src .now) (a .codec) (l .loop .dst) (l .loop .at) (l .loop .st) (l .loop .inv) (turnedOf (t .turn .result) (t .turn .last .0)) (t .turn .ensures) (c .if2 .left)
+    head-last (a .dst .now) (a .x) (a .src .now) (a .codec) (l .loop .dst) (l .loop .at) (l .loop .st) (l .loop .inv)
+    (turnedOf (t .turn .result) (t .turn .last .0)) (t .turn .ensures) (c .if2 .left)
     ∙ sym (read-open largest (a .x) (a .codec) (a .src .now) (a .dst .now) (l .before .if1 .left))
 
 pub decode-with-spec : {M : Type 1} → statement M

@@ -19,7 +19,12 @@ close-requires-2 c κs = search needs
 
 returns-2 : tie.Need-returns-2
 unfolding opening
-returns-2 c = rw (c .close2 .ensures, ne-eqb (c .before .before .before .args .limit) 0 (c .before .before .if1 .left), lt-ltb 1073741824 (c .before .before .before .args .limit) (c .before .if2 .taken))
+returns-2 c = rw (
+  c .close2 .ensures,
+  ne-eqb (c .before .before .before .args .limit) 0 (c .before .before .if1 .left),
+  lt-ltb 1073741824
+      (c .before .before .before .args .limit) (c .before .if2 .taken),
+)
 
 returns-3 : tie.Need-returns-3
 unfolding opening

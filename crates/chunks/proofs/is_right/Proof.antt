@@ -21,7 +21,8 @@ slice-relend-prefix-try-case : tie.Need-slice-relend-prefix-try-case
 slice-relend-prefix-try-case c = search needs
 
 slice-aggregate-try-case : tie.Need-slice-aggregate-try-case
-slice-aggregate-try-case c = sym (length-take-le (c .before .before .word .result) (c .before .before .before .before .before .args .space .now) (c .before .if1 .left))
+slice-aggregate-try-case c = sym (length-take-le (c .before .before .word .result) (c .before .before .before .before .before .args .space .now)
+    (c .before .if1 .left))
 
 try-case-requires : tie.Need-try-case-requires
 try-case-requires c κs = search needs

@@ -23,10 +23,12 @@ cast-result-2 : tie.Need-cast-result-2
 cast-result-2 c = rw (plain-is (c .before .args .micros) (c .before .good .0) (c .if1 .left)) (tt, record { fits = omega arith })
 
 returns : tie.Need-returns
-returns c = rw (below-is (c .before .args .micros) (c .before .good .0) (c .if1 .taken), add-one) (sym (ap natAbs (negative-is (c .before .args .micros) (c .before .good .0) (c .if1 .taken))))
+returns c = rw (below-is (c .before .args .micros) (c .before .good .0) (c .if1 .taken), add-one)
+    (sym (ap natAbs (negative-is (c .before .args .micros) (c .before .good .0) (c .if1 .taken))))
 
 returns-2 : tie.Need-returns-2
-returns-2 c = rw (plain-is (c .before .args .micros) (c .before .good .0) (c .if1 .left)) (sym (ap natAbs (positive-is (c .before .args .micros) (c .before .good .0) (c .if1 .left))))
+returns-2 c = rw (plain-is (c .before .args .micros) (c .before .good .0) (c .if1 .left))
+    (sym (ap natAbs (positive-is (c .before .args .micros) (c .before .good .0) (c .if1 .left))))
 
 pub magnitude-spec : {M : Type 1} → statement M
 magnitude-spec =

@@ -46,19 +46,29 @@ round-requires c κs =
     omega (arith, i .long, i .fits)
 
 same-length : tie.Need-same-length Inv-loop μ-loop
-same-length c = omega (arith, c .before .before .before .before .before .before .before .round .kept .0, c .before .before .before .before .before .before .before .before .before .before .before .loop .inv .long)
+same-length c = omega (
+  arith,
+  c .before .before .before .before .before .before .before .round .kept .0,
+  c .before .before .before .before .before .before .before .before .before .before .before .loop .inv .long,
+)
 
 same-length-2 : tie.Need-same-length-2 Inv-loop μ-loop
-same-length-2 c = omega (arith, c .before .before .before .before .before .before .before .round .kept .1 .0, c .before .before .before .before .before .before .before .before .before .before .before .loop .inv .same)
+same-length-2 c = omega (
+  arith,
+  c .before .before .before .before .before .before .before .round .kept .1 .0,
+  c .before .before .before .before .before .before .before .before .before .before .before .loop .inv .same,
+)
 
 returns-3 : tie.Need-returns-3 Inv-loop μ-loop
 returns-3 c =
     let t = c .before .before .before .before .before .before .before .round in
     let l = c .before .before .before .before .before .before .before .before .before .before .before .loop in
-    let a = c .before .before .before .before .before .before .before .before .before .before .before .before .before .before .before .before .before .before .args in
+    let up = c .before .before .before .before .before .before .before .before in
+    let a = up .before .before .before .before .before .before .before .before .before .before .args in
     let z = c .before .before .before .before .before .before .before .before .before .before .before .before in
     let o = framed-open largest (a .codec) (a .src .now) (a .staging .now) (a .dst .now) (z .before .before .if1 .left) (omega (arith, z .if2 .left)) in (
-      head-last (a .staging .now) (a .dst .now) (a .codec) (a .src .now) (l .staging) (l .dst) (l .at) (l .st) (l .inv) (t .result) (t .last .0) (t .last .1 .0) (t .ensures) (c .if3 .taken) ∙ sym o,
+      head-last (a .staging .now) (a .dst .now) (a .codec) (a .src .now) (l .staging) (l .dst) (l .at) (l .st) (l .inv) (t .result) (t .last .0)
+          (t .last .1 .0) (t .ensures) (c .if3 .taken) ∙ sym o,
       λ k. never (a .codec .closed) (z .before .before .if1 .left) k,
       λ h. absurd (omega (arith, h, z .if2 .left)),
     )
@@ -67,7 +77,8 @@ add-at : tie.Need-add-at Inv-loop μ-loop
 add-at c =
     let t = c .before .before .before .before .before .before .before .before .round in
     let l = c .before .before .before .before .before .before .before .before .before .before .before .before .loop in
-    let start = c .before .before .before .before .before .before .before .before .before .before .before .before .before .before .before .before .before .before .before in
+    let up = c .before .before .before .before .before .before .before .before in
+    let start = up .before .before .before .before .before .before .before .before .before .before .before in
     let a = start .args in
     let u =
     used-in (a .staging .now) (a .dst .now) (a .codec) (a .src .now) (l .staging) (l .dst) (l .at) (l .st) (l .inv)
@@ -78,15 +89,23 @@ loop-less : tie.Need-loop-less Inv-loop μ-loop
 loop-less c =
     let t = c .before .before .before .before .before .before .before .before .round in
     let l = c .before .before .before .before .before .before .before .before .before .before .before .before .loop in
-    let a = c .before .before .before .before .before .before .before .before .before .before .before .before .before .before .before .before .before .before .before .args in
-    omega (arith, used-in (a .staging .now) (a .dst .now) (a .codec) (a .src .now) (l .staging) (l .dst) (l .at) (l .st) (l .inv) (t .result) (t .last .0) (t .last .1 .0) (t .ensures), c .before .if3 .left)
+    let up = c .before .before .before .before .before .before .before .before in
+    let a = up .before .before .before .before .before .before .before .before .before .before .before .args in
+    omega (
+      arith,
+      used-in (a .staging .now) (a .dst .now) (a .codec) (a .src .now) (l .staging) (l .dst) (l .at) (l .st) (l .inv) (t .result)
+          (t .last .0) (t .last .1 .0) (t .ensures),
+      c .before .if3 .left,
+    )
 
 loop-again : tie.Need-loop-again Inv-loop μ-loop
 loop-again c =
     let t = c .before .before .before .before .before .before .before .before .round in
     let l = c .before .before .before .before .before .before .before .before .before .before .before .before .loop in
-    let a = c .before .before .before .before .before .before .before .before .before .before .before .before .before .before .before .before .before .before .before .args in
-    head-more (a .staging .now) (a .dst .now) (a .codec) (a .src .now) (l .staging) (l .dst) (l .at) (l .st) (l .inv) (t .result) (t .last .0) (t .last .1 .0) (t .ensures) (c .before .if3 .left) (t .kept .0) (t .kept .1 .0)
+    let up = c .before .before .before .before .before .before .before .before in
+    let a = up .before .before .before .before .before .before .before .before .before .before .before .args in
+    head-more (a .staging .now) (a .dst .now) (a .codec) (a .src .now) (l .staging) (l .dst) (l .at) (l .st) (l .inv) (t .result) (t .last .0)
+    (t .last .1 .0) (t .ensures) (c .before .if3 .left) (t .kept .0) (t .kept .1 .0)
 
 pub decode-framed-spec : {M : Type 1} → statement M
 decode-framed-spec =

@@ -39,7 +39,11 @@ unsent-requires-3 c κs = search needs
 returns-3 : tie.Need-returns-3
 returns-3 c =
     let a = c .before .before .before .before .before .before .args in
-    rw (write-large largest (a .codec) (a .packet .now) (a .dst .now) (c .before .before .before .if1 .left) (c .before .before .if2 .left) (c .before .if3 .taken), c .unsent3 .ensures)
+    rw (
+      write-large largest (a .codec) (a .packet .now) (a .dst .now) (c .before .before .before .if1 .left) (c .before .before .if2 .left)
+          (c .before .if3 .taken),
+      c .unsent3 .ensures,
+    )
 
 chunks-len-requires : tie.Need-chunks-len-requires
 chunks-len-requires c κs = search needs
@@ -60,10 +64,14 @@ unsent-requires-4 c κs = search needs
 returns-4 : tie.Need-returns-4
 returns-4 c =
     let a = c .before .before .before .before .before .before .before .before .before .before .args in
-    let t = total-is (a .codec .limit) (length (a .packet .now)) _ _ _ (c .before .before .before .before .chunks-len .ensures) (c .before .before .before .piece-len .ensures) (c .before .before .pieces .ensures) in
+    let t = total-is (a .codec .limit) (length (a .packet .now)) _ _ _ (c .before .before .before .before .chunks-len .ensures)
+    (c .before .before .before .piece-len .ensures) (c .before .before .pieces .ensures) in
     let h : length (a .dst .now) < total largest (a .codec .limit) (length (a .packet .now)) = rw (← t) (omega arith) in
     let z = c .before .before .before .before .before in
-    rw (write-no-room largest (a .codec) (a .packet .now) (a .dst .now) (z .before .before .if1 .left) (z .before .if2 .left) (z .if3 .left) h, c .unsent4 .ensures)
+    rw (
+      write-no-room largest (a .codec) (a .packet .now) (a .dst .now) (z .before .before .if1 .left) (z .before .if2 .left) (z .if3 .left) h,
+      c .unsent4 .ensures,
+    )
 
 sub-if5 : tie.Need-sub-if5
 sub-if5 c = search needs
@@ -74,15 +82,20 @@ unsent-requires-5 c κs = search needs
 returns-5 : tie.Need-returns-5
 returns-5 c =
     let a = c .before .before .before .before .before .before .before .before .before .before .before .args in
-    let t = total-is (a .codec .limit) (length (a .packet .now)) _ _ _ (c .before .before .before .before .before .chunks-len .ensures) (c .before .before .before .before .piece-len .ensures) (c .before .before .before .pieces .ensures) in
+    let t = total-is (a .codec .limit) (length (a .packet .now)) _ _ _ (c .before .before .before .before .before .chunks-len .ensures)
+    (c .before .before .before .before .piece-len .ensures) (c .before .before .before .pieces .ensures) in
     let h : length (a .dst .now) < total largest (a .codec .limit) (length (a .packet .now)) = rw (← t) (omega arith) in
     let z = c .before .before .before .before .before .before in
-    rw (write-no-room largest (a .codec) (a .packet .now) (a .dst .now) (z .before .before .if1 .left) (z .before .if2 .left) (z .if3 .left) h, c .unsent5 .ensures)
+    rw (
+      write-no-room largest (a .codec) (a .packet .now) (a .dst .now) (z .before .before .if1 .left) (z .before .if2 .left) (z .if3 .left) h,
+      c .unsent5 .ensures,
+    )
 
 put-packet-requires : tie.Need-put-packet-requires
 put-packet-requires c κs =
     let a = c .before .before .before .before .before .before .before .before .before .before .before .args in
-    let p = piece-fits (a .codec .limit) _ (c .before .before .before .before .before .before .before .if2 .left) (c .before .before .before .before .piece-len .ensures) in
+    let p = piece-fits (a .codec .limit) _ (c .before .before .before .before .before .before .before .if2 .left)
+    (c .before .before .before .before .piece-len .ensures) in
     (p .0, c .before .before .before .before .before .chunks-len .ensures, c .before .before .before .pieces .ensures, omega arith)
 
 mul-t12 : tie.Need-mul-t12

@@ -25,7 +25,8 @@ with-line-requires : tie.Need-with-line-requires
 with-line-requires c κs = search needs
 
 same-length : tie.Need-same-length
-same-length c = c .before .before .before .before .before .before .before .before .before .before .before .before .before .before .before .write-packets .kept .0
+same-length c =
+    c .before .before .before .before .before .before .before .before .before .before .before .before .before .before .before .write-packets .kept .0
 
 same-length-2 : tie.Need-same-length-2
 same-length-2 c = search needs

@@ -9,7 +9,8 @@ use Rattle.lines.proofs.run_lines.Lts as lts
 use Rattle.lines.proofs.run_line.Reads as run-line-reads
 
 abbrev Inv-loop : tie.InvT-loop
-Inv-loop out₀ line₀ dst₀ one₀ pool t₀ s₀ out line dst one t s = (s ≤ 16000) × (length out ≡ length out₀) × (length line ≡ length line₀) × (length dst ≡ length dst₀) × (length one ≡ length one₀)
+Inv-loop out₀ line₀ dst₀ one₀ pool t₀ s₀ out line dst one t s = (s ≤ 16000) × (length out ≡ length out₀) × (length line ≡ length line₀) ×
+    (length dst ≡ length dst₀) × (length one ≡ length one₀)
 
 abbrev μ-loop : tie.MeasureT-loop
 μ-loop out₀ line₀ dst₀ one₀ pool t₀ s₀ out line dst one t s = 16000 - s

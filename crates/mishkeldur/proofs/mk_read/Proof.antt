@@ -54,7 +54,11 @@ slice-write-state : tie.Need-slice-write-state
 slice-write-state c = search needs
 
 sub-len : tie.Need-sub-len
-sub-len c = omega (arith, (c .before .before .before .before .before .before .before .before .whole .ensures (c .before .before .before .before .before .before .before .if2 .taken)) .least)
+sub-len c = omega (
+  arith,
+  (c .before .before .before .before .before .before .before .before .whole .ensures
+      (c .before .before .before .before .before .before .before .if2 .taken)) .least,
+)
 
 same-length : tie.Need-same-length
 same-length c = search needs
@@ -68,7 +72,8 @@ returns-2 c =
     let h = c .before .before .before .before .before .before .before .before .whole in
     let byte = c .before .before .before .before .before .before .before .before .before .before .before .before .before .before .slice-known .given in
     rw (c .wrapping-add-u8 .ensures, c .before .before .before .before .copy .ensures)
-    (reads-whole (a .state .now) (c .before .before .before .before .before .before .before .before .before .before .if1 .left) (λ i. omega (arith, byte i)) (a .src .now) (a .staging .now) (a .packet .now) (h .result)
+    (reads-whole (a .state .now) (c .before .before .before .before .before .before .before .before .before .before .if1 .left)
+    (λ i. omega (arith, byte i)) (a .src .now) (a .staging .now) (a .packet .now) (h .result)
     (c .before .before .before .before .before .before .before .before .whole .ensures (c .before .before .before .before .before .before .before .if2 .taken)))
 
 whole-frame-requires : tie.Need-whole-frame-requires
@@ -102,16 +107,22 @@ slice-write-state-2 : tie.Need-slice-write-state-2
 slice-write-state-2 c = search needs
 
 slice-read-wrapping-add-u8-3 : tie.Need-slice-read-wrapping-add-u8-3
-slice-read-wrapping-add-u8-3 c = rw length-set (omega (arith, c .before .before .before .before .before .before .before .before .before .before .before .before .before .before .if1 .left))
+slice-read-wrapping-add-u8-3 c = rw length-set
+    (omega (arith, c .before .before .before .before .before .before .before .before .before .before .before .before .before .before .if1 .left))
 
 wrapping-add-u8-requires-3 : tie.Need-wrapping-add-u8-requires-3
 wrapping-add-u8-requires-3 c κs = search needs
 
 slice-write-state-3 : tie.Need-slice-write-state-3
-slice-write-state-3 c = rw length-set (omega (arith, c .before .before .before .before .before .before .before .before .before .before .before .before .before .before .before .if1 .left))
+slice-write-state-3 c = rw length-set (omega
+    (arith, c .before .before .before .before .before .before .before .before .before .before .before .before .before .before .before .if1 .left))
 
 sub-len-2 : tie.Need-sub-len-2
-sub-len-2 c = omega (arith, (c .before .before .before .before .before .before .before .before .before .before .whole-frame .ensures (c .before .before .before .before .before .before .before .before .before .if3 .taken)) .least)
+sub-len-2 c = omega (
+  arith,
+  (c .before .before .before .before .before .before .before .before .before .before .whole-frame .ensures
+      (c .before .before .before .before .before .before .before .before .before .if3 .taken)) .least,
+)
 
 same-length-3 : tie.Need-same-length-3
 same-length-3 c = search needs
@@ -121,13 +132,21 @@ same-length-4 c = search needs
 
 returns-3 : tie.Need-returns-3
 returns-3 c =
-    let a = c .before .before .before .before .before .before .before .before .before .before .before .before .before .before .before .before .before .before .before .before .args in
+    let up = c .before .before .before .before .before .before .before .before in
+    let a = up .before .before .before .before .before .before .before .before .before .before .before .before .args in
     let h = c .before .before .before .before .before .before .before .before .before .before .whole-frame in
-    let byte = c .before .before .before .before .before .before .before .before .before .before .before .before .before .before .before .before .before .before .before .slice-known .given in
-    let w = (c .before .before .before .before .before .before .before .before .before .before .whole-frame .ensures (c .before .before .before .before .before .before .before .before .before .if3 .taken)) in
+    let byte = up .before .before .before .before .before .before .before .before .before .before .before .slice-known .given in
+    let w = (c .before .before .before .before .before .before .before .before .before .before .whole-frame .ensures
+    (c .before .before .before .before .before .before .before .before .before .if3 .taken)) in
     let s = a .state .now in
-    rw (c .wrapping-add-u83 .ensures, c .before .before .wrapping-add-u82 .ensures, c .before .before .before .before .before .before .copy2 .ensures, getD-set-other s 1 4 ((getD s 1 0 + 1) % 256) 0 (λ e. omega arith))
-    (reads-whole-frame s (c .before .before .before .before .before .before .before .before .before .before .before .before .before .before .before .if1 .left) (λ i. omega (arith, byte i)) (a .src .now) (a .staging .now) (a .packet .now) (h .result) w)
+    rw (
+      c .wrapping-add-u83 .ensures,
+      c .before .before .wrapping-add-u82 .ensures,
+      c .before .before .before .before .before .before .copy2 .ensures,
+      getD-set-other s 1 4 ((getD s 1 0 + 1) % 256) 0 (λ e. omega arith),
+    )
+    (reads-whole-frame s (up .before .before .before .before .before .before .before .if1 .left) (λ i. omega (arith, byte i))
+    (a .src .now) (a .staging .now) (a .packet .now) (h .result) w)
 
 read-codec-requires : tie.Need-read-codec-requires
 read-codec-requires c κs = search needs

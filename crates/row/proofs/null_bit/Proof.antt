@@ -25,7 +25,8 @@ returns : tie.Need-returns
 returns c =
     let o = c .before .before .before in
     let a = o .before .before .args in
-    null-there (a .map .now) (a .side) (o .bit-offset .result) (o .bit-offset .ensures) (a .i) _ _ (c .before .before .byte-of .ensures) (c .before .if1 .taken) (c .is-null .ensures)
+    null-there (a .map .now) (a .side) (o .bit-offset .result) (o .bit-offset .ensures) (a .i) _ _ (c .before .before .byte-of .ensures)
+    (c .before .if1 .taken) (c .is-null .ensures)
 
 returns-2 : tie.Need-returns-2
 returns-2 c =

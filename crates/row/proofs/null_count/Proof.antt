@@ -33,7 +33,8 @@ returns-3 c =
     let o = c .before .before in
     let t = o .before in
     let a = t .before .before .before .args in
-    count-short (a .map .now) (a .side) (o .bit-offset .result) (o .bit-offset .ensures) (a .n) (t .before .if1 .left) (t .if2 .left) (rw (c .before .map-size .ensures) at (c .if3 .taken))
+    count-short (a .map .now) (a .side) (o .bit-offset .result) (o .bit-offset .ensures) (a .n) (t .before .if1 .left) (t .if2 .left)
+    (rw (c .before .map-size .ensures) at (c .if3 .taken))
 
 count-nulls-requires : tie.Need-count-nulls-requires
 count-nulls-requires c κs =
@@ -47,7 +48,8 @@ returns-4 c =
     let o = c .before .before .before in
     let t = o .before in
     let a = t .before .before .before .args in
-    count-there (a .map .now) (a .side) (o .bit-offset .result) (o .bit-offset .ensures) (a .n) (t .before .if1 .left) (t .if2 .left) _ (rw (c .before .before .map-size .ensures) at (c .before .if3 .left)) (c .count-nulls .ensures)
+    count-there (a .map .now) (a .side) (o .bit-offset .result) (o .bit-offset .ensures) (a .n) (t .before .if1 .left) (t .if2 .left) _
+    (rw (c .before .before .map-size .ensures) at (c .before .if3 .left)) (c .count-nulls .ensures)
 
 pub null-count-spec : {M : Type 1} → statement M
 null-count-spec =

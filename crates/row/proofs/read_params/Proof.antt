@@ -19,7 +19,8 @@ returns : tie.Need-returns
 returns c =
     let k = c .before .before .before in
     let a = k .before .before .before .before .before .args in
-    params-lists (a .list .now) (a .types .now) (a .signs .now) (a .starts .now) (k .listed-columns .result) (k .listed-columns .ensures) (c .before .r .given .0 .0) (c .before .r .given .1)
+    params-lists (a .list .now) (a .types .now) (a .signs .now) (a .starts .now) (k .listed-columns .result) (k .listed-columns .ensures)
+    (c .before .r .given .0 .0) (c .before .r .given .1)
 
 enum-told : tie.Need-enum-told
 enum-told c = search needs
@@ -44,7 +45,8 @@ returns-2 c =
     let t = o .before in
     let k = t .before .before in
     let a = k .before .before .before .before .before .args in
-    params-values (a .list .now) (a .types .now) (a .signs .now) (a .starts .now) (k .listed-columns .result) (k .listed-columns .ensures) _ (t .enum-told .given .1) _ _ (rw (o .bit-offset .ensures) at (v .read-values .ensures))
+    params-values (a .list .now) (a .types .now) (a .signs .now) (a .starts .now) (k .listed-columns .result) (k .listed-columns .ensures) _
+    (t .enum-told .given .1) _ _ (rw (o .bit-offset .ensures) at (v .read-values .ensures))
 
 pub read-params-spec : {M : Type 1} → statement M
 read-params-spec =

@@ -19,7 +19,8 @@ returns : tie.Need-returns
 returns c =
     let k = c .before .before .before in
     let a = k .before .before .before .before .before .args in
-    row-lists (a .row .now) (a .types .now) (a .signs .now) (a .starts .now) (k .listed-columns .result) (k .listed-columns .ensures) (c .before .r .given .0 .0) (c .before .r .given .1)
+    row-lists (a .row .now) (a .types .now) (a .signs .now) (a .starts .now) (k .listed-columns .result) (k .listed-columns .ensures)
+    (c .before .r .given .0 .0) (c .before .r .given .1)
 
 enum-told : tie.Need-enum-told
 enum-told c = search needs
@@ -29,7 +30,8 @@ returns-2 c =
     let t = c .before in
     let k = t .before .before in
     let a = k .before .before .before .before .before .args in
-    row-empty (a .row .now) (a .types .now) (a .signs .now) (a .starts .now) (k .listed-columns .result) (k .listed-columns .ensures) _ (t .enum-told .given .1) (c .if1 .taken)
+    row-empty (a .row .now) (a .types .now) (a .signs .now) (a .starts .now) (k .listed-columns .result) (k .listed-columns .ensures) _
+    (t .enum-told .given .1) (c .if1 .taken)
 
 shared-slice-read-b : tie.Need-shared-slice-read-b
 shared-slice-read-b c = search needs
@@ -40,7 +42,8 @@ returns-3 c =
     let t = f .before in
     let k = t .before .before in
     let a = k .before .before .before .before .before .args in
-    row-lead (a .row .now) (a .types .now) (a .signs .now) (a .starts .now) (k .listed-columns .result) (k .listed-columns .ensures) _ (t .enum-told .given .1) (f .if1 .left) (c .if2 .taken)
+    row-lead (a .row .now) (a .types .now) (a .signs .now) (a .starts .now) (k .listed-columns .result) (k .listed-columns .ensures) _
+    (t .enum-told .given .1) (f .if1 .left) (c .if2 .taken)
 
 bit-offset-requires : tie.Need-bit-offset-requires
 bit-offset-requires c κs = search needs
@@ -64,7 +67,8 @@ returns-4 c =
     let t = f .before in
     let k = t .before .before in
     let a = k .before .before .before .before .before .args in
-    row-values (a .row .now) (a .types .now) (a .signs .now) (a .starts .now) (k .listed-columns .result) (k .listed-columns .ensures) _ (t .enum-told .given .1)
+    row-values (a .row .now) (a .types .now) (a .signs .now) (a .starts .now) (k .listed-columns .result) (k .listed-columns .ensures) _
+    (t .enum-told .given .1)
     (f .if1 .left) (o .before .if2 .left) _ _ (rw (o .bit-offset .ensures) at (v .read-values .ensures))
 
 pub read-row-spec : {M : Type 1} → statement M

@@ -72,7 +72,8 @@ returns-2 c =
     let m = t .before in
     let b = m .before .before .before .before in
     let a = b .args in
-    values-read (a .s .now) (a .lead) (a .off) (a .types .now) (a .starts .now) (m .map-size .result) (m .map-size .ensures) (omega (arith, t .if1 .left, b .pre)) _ (rw add-sub-cancel-left refl)
+    values-read (a .s .now) (a .lead) (a .off) (a .types .now) (a .starts .now) (m .map-size .result) (m .map-size .ensures)
+    (omega (arith, t .if1 .left, b .pre)) _ (rw add-sub-cancel-left refl)
     _ _ _ _ (p .pass .result) (p2 .pass2 .result) (at-u .used .given .1) (p .pass .ensures) (p2 .pass2 .ensures) (c .count-nulls .ensures)
 
 same-length-2 : tie.Need-same-length-2
@@ -85,7 +86,8 @@ returns-3 c =
     let m = t .before in
     let b = m .before .before .before .before in
     let a = b .args in
-    values-stop (a .s .now) (a .lead) (a .off) (a .types .now) (a .starts .now) (m .map-size .result) (m .map-size .ensures) (omega (arith, t .if1 .left, b .pre)) _ (rw add-sub-cancel-left refl)
+    values-stop (a .s .now) (a .lead) (a .off) (a .types .now) (a .starts .now) (m .map-size .result) (m .map-size .ensures)
+    (omega (arith, t .if1 .left, b .pre)) _ (rw add-sub-cancel-left refl)
     _ _ (p .pass .result) (c .before .r .given .1) (p .pass .ensures)
 
 pub read-values-spec : {M : Type 1} → statement M

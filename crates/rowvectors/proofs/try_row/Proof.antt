@@ -81,7 +81,9 @@ ask-requires : tie.Need-ask-requires
 ask-requires c κs = search needs
 
 row-right-requires : tie.Need-row-right-requires
-row-right-requires c κs = c .before .before .before .before .before .before .before .before .before .before .before .before .before .before .before .before .before .before .before .before .before .before .pre
+row-right-requires c κs =
+    let up = c .before .before .before .before .before .before .before .before .before .before .before in
+    up .before .before .before .before .before .before .before .before .before .before .before .pre
 
 same-length : tie.Need-same-length
 same-length c = search needs

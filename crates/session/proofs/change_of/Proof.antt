@@ -28,7 +28,9 @@ returns-2 : tie.Need-returns-2
 unfolding stringChange
 returns-2 c =
     let p = c .before .before in
-    rw (p .before .match .keys2) (ap IsTracked (same-one (c .same .result) (partOf (p .before .before .before .args .s .now) (p .before .before .before .args .at) (p .before .before .before .args .len)) (rw (p .part .ensures) at (c .same .ensures))))
+    rw (p .before .match .keys2) (ap IsTracked
+    (same-one (c .same .result) (partOf (p .before .before .before .args .s .now) (p .before .before .before .args .at)
+    (p .before .before .before .args .len)) (rw (p .part .ensures) at (c .same .ensures))))
 
 returns-3 : tie.Need-returns-3
 unfolding stringChange

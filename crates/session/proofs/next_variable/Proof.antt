@@ -22,7 +22,11 @@ add-checked-eat-lenenc-str : tie.Need-add-checked-eat-lenenc-str
 add-checked-eat-lenenc-str c =
     let found = c .before .before in
     let a = found .before .before .before .before .before .args in
-    omega (arith, str-in (a .s .now) (a .at) (found .name .given .0 .0) (sym (rw (found .name .given .1) at (found .before .before .checked-eat-lenenc-str .ensures))))
+    omega (
+      arith,
+      str-in (a .s .now) (a .at) (found .name .given .0 .0)
+          (sym (rw (found .name .given .1) at (found .before .before .checked-eat-lenenc-str .ensures))),
+    )
 
 checked-eat-lenenc-str-requires-2 : tie.Need-checked-eat-lenenc-str-requires-2
 checked-eat-lenenc-str-requires-2 c κs = search needs
@@ -35,7 +39,11 @@ add-next c =
     let found = c .before .before in
     let name = found .before .before .before .before .before in
     let a = name .before .before .before .before .before .args in
-    omega (arith, str-in (a .s .now) (name .name .given .0 .0 .at + name .name .given .0 .0 .len) (found .value .given .0 .0) (sym (rw (found .value .given .1) at (found .before .before .checked-eat-lenenc-str2 .ensures))))
+    omega (
+      arith,
+      str-in (a .s .now) (name .name .given .0 .0 .at + name .name .given .0 .0 .len) (found .value .given .0 .0)
+          (sym (rw (found .value .given .1) at (found .before .before .checked-eat-lenenc-str2 .ensures))),
+    )
 
 enum-known-r : tie.Need-enum-known-r
 enum-known-r c = search needs

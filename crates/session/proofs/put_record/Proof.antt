@@ -77,13 +77,17 @@ same-length-3 : tie.Need-same-length-3
 same-length-3 c = search needs
 
 returns-3 : tie.Need-returns-3
-returns-3 c = rw (c .before .before .before .before .before .before .before .change2 .given .1, c .before .before .before .before .before .if1 .taken) (c .before .before .put-slice2 .ensures)
+returns-3 c = rw (
+  c .before .before .before .before .before .before .before .change2 .given .1,
+  c .before .before .before .before .before .if1 .taken,
+) (c .before .before .put-slice2 .ensures)
 
 same-length-4 : tie.Need-same-length-4
 same-length-4 c = search needs
 
 returns-4 : tie.Need-returns-4
-returns-4 c = rw (c .before .before .before .before .before .before .before .change2 .given .1, c .before .before .before .before .before .if1 .left) (c .before .before .put-slice3 .ensures)
+returns-4 c = rw (c .before .before .before .before .before .before .before .change2 .given .1, c .before .before .before .before .before .if1 .left)
+    (c .before .before .put-slice3 .ensures)
 
 same-length-5 : tie.Need-same-length-5
 same-length-5 c = search needs

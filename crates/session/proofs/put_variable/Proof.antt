@@ -49,7 +49,8 @@ returns c =
     let f = n .before .before .before .before .before in
     let a = f .before .before .before .before .args in
     let h = has-yes (a .at + f .lenenc-str-len .result + n .lenenc-str-len2 .result) (length (a .dst .now)) (p .before .has2 .ensures) (p .if2 .taken) in
-    wrote-then (strBytes (a .name .now)) (strBytes (a .value .now)) (a .dst .now) (a .at) (f .lenenc-str-len .ensures .0) (omega (arith, h, n .lenenc-str-len2 .ensures .0)) (q .put-lenenc-str .ensures) (c .before .before .put-lenenc-str2 .ensures)
+    wrote-then (strBytes (a .name .now)) (strBytes (a .value .now)) (a .dst .now) (a .at) (f .lenenc-str-len .ensures .0)
+    (omega (arith, h, n .lenenc-str-len2 .ensures .0)) (q .put-lenenc-str .ensures) (c .before .before .put-lenenc-str2 .ensures)
 
 same-length-2 : tie.Need-same-length-2
 same-length-2 c = search needs
@@ -60,7 +61,8 @@ returns-2 c =
     let f = n .before .before .before .before .before in
     let a = f .before .before .before .before .args in
     let h = has-no (a .at + f .lenenc-str-len .result + n .lenenc-str-len2 .result) (length (a .dst .now)) (c .before .has2 .ensures) (c .if2 .left) in
-    wrote-full (pairBytes (a .name .now) (a .value .now)) (a .dst .now) (a .at) (simp length-append (omega (arith, h, simp length-append at (f .lenenc-str-len .ensures .0), simp length-append at (n .lenenc-str-len2 .ensures .0))))
+    wrote-full (pairBytes (a .name .now) (a .value .now)) (a .dst .now) (a .at)
+    (simp length-append (omega (arith, h, simp length-append at (f .lenenc-str-len .ensures .0), simp length-append at (n .lenenc-str-len2 .ensures .0))))
 
 same-length-3 : tie.Need-same-length-3
 same-length-3 c = search needs
@@ -70,7 +72,8 @@ returns-3 c =
     let f = c .before .before .before in
     let a = f .before .before .before .before .args in
     let h = has-no (a .at + f .lenenc-str-len .result) (length (a .dst .now)) (c .before .has .ensures) (c .if1 .left) in
-    wrote-full (pairBytes (a .name .now) (a .value .now)) (a .dst .now) (a .at) (simp length-append (omega (arith, h, simp length-append at (f .lenenc-str-len .ensures .0))))
+    wrote-full (pairBytes (a .name .now) (a .value .now)) (a .dst .now) (a .at)
+    (simp length-append (omega (arith, h, simp length-append at (f .lenenc-str-len .ensures .0))))
 
 pub put-variable-spec : {M : Type 1} → statement M
 put-variable-spec =

@@ -25,7 +25,11 @@ change-of-requires c κs = search needs
 add-used : tie.Need-add-used
 add-used c =
     let found = c .before .before .before in
-    omega (arith, str-in (found .before .before .before .before .args .s .now) 0 (found .p .given .0 .0) (sym (rw (found .p .given .1) at (found .before .before .checked-eat-lenenc-str .ensures))))
+    omega (
+      arith,
+      str-in (found .before .before .before .before .args .s .now) 0 (found .p .given .0 .0)
+          (sym (rw (found .p .given .1) at (found .before .before .checked-eat-lenenc-str .ensures))),
+    )
 
 enum-known-r : tie.Need-enum-known-r
 enum-known-r c = search needs

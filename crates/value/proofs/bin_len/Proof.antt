@@ -108,7 +108,8 @@ returns-9 c =
     let m = c .before .before in
     let a = m .before .before .before .args in
     let l = c .date-len .ensures in
-    len-as (a .src .now) (1 + c .date-len .result) (m .v2 .given .1) (date-length _ ∙ ap (λ (n : ℕ). 1 + n) (sym l)) (omega (arith, l, date-len-le (m .v2 .given .0 .0)))
+    len-as (a .src .now) (1 + c .date-len .result) (m .v2 .given .1) (date-length _ ∙ ap (λ (n : ℕ). 1 + n) (sym l))
+    (omega (arith, l, date-len-le (m .v2 .given .0 .0)))
 
 returns-10 : tie.Need-returns-10
 unfolding valueBytes
@@ -116,7 +117,8 @@ returns-10 c =
     let m = c .before .before in
     let a = m .before .before .before .args in
     let l = c .time-len .ensures in
-    len-as (a .src .now) (1 + c .time-len .result) (m .v3 .given .1) (time-length _ ∙ ap (λ (n : ℕ). 1 + n) (sym l)) (omega (arith, l, time-len-le (m .v3 .given .0 .0)))
+    len-as (a .src .now) (1 + c .time-len .result) (m .v3 .given .1) (time-length _ ∙ ap (λ (n : ℕ). 1 + n) (sym l))
+    (omega (arith, l, time-len-le (m .v3 .given .0 .0)))
 
 pub bin-len-spec : {M : Type 1} → statement M
 bin-len-spec =

@@ -85,61 +85,71 @@ returns : tie.Need-returns
 returns c =
     let d = c .before .before .before in
     let a = d .before .before .args in
-    bin-kind (a .s .now) (a .at) (a .column-type) (d .kind-of .result) (d .kind-of .ensures) (a .unsigned) K.Str _ (c .before .enum-told .given .1) (c .str-at .ensures)
+    bin-kind (a .s .now) (a .at) (a .column-type) (d .kind-of .result) (d .kind-of .ensures) (a .unsigned) K.Str _ (c .before .enum-told .given .1)
+    (c .str-at .ensures)
 
 returns-2 : tie.Need-returns-2
 returns-2 c =
     let d = c .before .before .before in
     let a = d .before .before .args in
-    bin-kind (a .s .now) (a .at) (a .column-type) (d .kind-of .result) (d .kind-of .ensures) (a .unsigned) K.One _ (c .before .enum-told2 .given .1) (c .int-at .ensures)
+    bin-kind (a .s .now) (a .at) (a .column-type) (d .kind-of .result) (d .kind-of .ensures) (a .unsigned) K.One _ (c .before .enum-told2 .given .1)
+    (c .int-at .ensures)
 
 returns-3 : tie.Need-returns-3
 returns-3 c =
     let d = c .before .before .before in
     let a = d .before .before .args in
-    bin-kind (a .s .now) (a .at) (a .column-type) (d .kind-of .result) (d .kind-of .ensures) (a .unsigned) K.Two _ (c .before .enum-told3 .given .1) (c .int-at2 .ensures)
+    bin-kind (a .s .now) (a .at) (a .column-type) (d .kind-of .result) (d .kind-of .ensures) (a .unsigned) K.Two _ (c .before .enum-told3 .given .1)
+    (c .int-at2 .ensures)
 
 returns-4 : tie.Need-returns-4
 returns-4 c =
     let d = c .before .before .before in
     let a = d .before .before .args in
-    bin-kind (a .s .now) (a .at) (a .column-type) (d .kind-of .result) (d .kind-of .ensures) (a .unsigned) K.Four _ (c .before .enum-told4 .given .1) (c .int-at3 .ensures)
+    bin-kind (a .s .now) (a .at) (a .column-type) (d .kind-of .result) (d .kind-of .ensures) (a .unsigned) K.Four _ (c .before .enum-told4 .given .1)
+    (c .int-at3 .ensures)
 
 returns-5 : tie.Need-returns-5
 returns-5 c =
     let d = c .before .before .before in
     let a = d .before .before .args in
-    bin-kind (a .s .now) (a .at) (a .column-type) (d .kind-of .result) (d .kind-of .ensures) (a .unsigned) K.Eight _ (c .before .enum-told5 .given .1) (c .int-at4 .ensures)
+    bin-kind (a .s .now) (a .at) (a .column-type) (d .kind-of .result) (d .kind-of .ensures) (a .unsigned) K.Eight _
+    (c .before .enum-told5 .given .1) (c .int-at4 .ensures)
 
 returns-6 : tie.Need-returns-6
 returns-6 c =
     let d = c .before .before .before in
     let a = d .before .before .args in
-    bin-kind (a .s .now) (a .at) (a .column-type) (d .kind-of .result) (d .kind-of .ensures) (a .unsigned) K.Single _ (c .before .enum-told6 .given .1) (c .float-at .ensures)
+    bin-kind (a .s .now) (a .at) (a .column-type) (d .kind-of .result) (d .kind-of .ensures) (a .unsigned) K.Single _
+    (c .before .enum-told6 .given .1) (c .float-at .ensures)
 
 returns-7 : tie.Need-returns-7
 returns-7 c =
     let d = c .before .before .before in
     let a = d .before .before .args in
-    bin-kind (a .s .now) (a .at) (a .column-type) (d .kind-of .result) (d .kind-of .ensures) (a .unsigned) K.Wide _ (c .before .enum-told7 .given .1) (c .double-at .ensures)
+    bin-kind (a .s .now) (a .at) (a .column-type) (d .kind-of .result) (d .kind-of .ensures) (a .unsigned) K.Wide _ (c .before .enum-told7 .given .1)
+    (c .double-at .ensures)
 
 returns-8 : tie.Need-returns-8
 returns-8 c =
     let d = c .before .before in
     let a = d .before .before .args in
-    bin-kind (a .s .now) (a .at) (a .column-type) (d .kind-of .result) (d .kind-of .ensures) (a .unsigned) K.Nil _ (c .enum-told8 .given .1) (sym (ap (λ (n : ℕ). gives (got Of.NULL n)) (add-zero (a .at))))
+    bin-kind (a .s .now) (a .at) (a .column-type) (d .kind-of .result) (d .kind-of .ensures) (a .unsigned) K.Nil _ (c .enum-told8 .given .1)
+    (sym (ap (λ (n : ℕ). gives (got Of.NULL n)) (add-zero (a .at))))
 
 returns-9 : tie.Need-returns-9
 returns-9 c =
     let d = c .before .before .before in
     let a = d .before .before .args in
-    bin-kind (a .s .now) (a .at) (a .column-type) (d .kind-of .result) (d .kind-of .ensures) (a .unsigned) K.Day _ (c .before .enum-told9 .given .1) (c .date-at .ensures)
+    bin-kind (a .s .now) (a .at) (a .column-type) (d .kind-of .result) (d .kind-of .ensures) (a .unsigned) K.Day _ (c .before .enum-told9 .given .1)
+    (c .date-at .ensures)
 
 returns-10 : tie.Need-returns-10
 returns-10 c =
     let d = c .before .before .before in
     let a = d .before .before .args in
-    bin-kind (a .s .now) (a .at) (a .column-type) (d .kind-of .result) (d .kind-of .ensures) (a .unsigned) K.Clock _ (c .before .enum-told10 .given .1) (c .time-at .ensures)
+    bin-kind (a .s .now) (a .at) (a .column-type) (d .kind-of .result) (d .kind-of .ensures) (a .unsigned) K.Clock _
+    (c .before .enum-told10 .given .1) (c .time-at .ensures)
 
 returns-11 : tie.Need-returns-11
 returns-11 c =

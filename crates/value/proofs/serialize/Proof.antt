@@ -114,7 +114,8 @@ unfolding valueBytes
 returns-2 c =
     let m = c .before .before .before .before .before .before in
     let a = m .before .before .before .before .args in
-    wrote-as (value-as (a .src .now) (m .v .given .1) (ap strBytes (sym (c .before .before .before .part .ensures)))) (c .before .before .put-lenenc-str .ensures)
+    wrote-as (value-as (a .src .now) (m .v .given .1) (ap strBytes (sym (c .before .before .before .part .ensures))))
+    (c .before .before .put-lenenc-str .ensures)
 
 same-length-3 : tie.Need-same-length-3
 same-length-3 c = search needs
@@ -147,7 +148,8 @@ unfolding valueBytes
 returns-5 c =
     let m = c .before .before .before .before .before .before in
     let a = m .before .before .before .before .args in
-    wrote-as (value-as (a .src .now) (m .v4 .given .1) (ap (leBytes 4) (sym (c .before .before .before .single-bits .ensures)))) (c .before .before .put-u32-le .ensures)
+    wrote-as (value-as (a .src .now) (m .v4 .given .1) (ap (leBytes 4) (sym (c .before .before .before .single-bits .ensures))))
+    (c .before .before .put-u32-le .ensures)
 
 same-length-6 : tie.Need-same-length-6
 same-length-6 c = search needs
@@ -167,7 +169,8 @@ unfolding valueBytes
 returns-7 c =
     let m = c .before .before .before .before .before .before in
     let a = m .before .before .before .before .args in
-    wrote-as (value-as (a .src .now) (m .v6 .given .1) (ap (leBytes 8) (sym (c .before .before .before .double-bits .ensures)))) (c .before .before .put-u64-le3 .ensures)
+    wrote-as (value-as (a .src .now) (m .v6 .given .1) (ap (leBytes 8) (sym (c .before .before .before .double-bits .ensures))))
+    (c .before .before .put-u64-le3 .ensures)
 
 same-length-8 : tie.Need-same-length-8
 same-length-8 c = search needs

@@ -80,7 +80,8 @@ returns : tie.Need-returns
 returns c =
     let d = c .before .before .before in
     let a = d .before .before .args in
-    skip-kind (a .s .now) (a .at) (a .column-type) (d .kind-of .result) (d .kind-of .ensures) K.Str _ (c .before .enum-told .given .1) (c .skip-lenenc-str .ensures)
+    skip-kind (a .s .now) (a .at) (a .column-type) (d .kind-of .result) (d .kind-of .ensures) K.Str _ (c .before .enum-told .given .1)
+    (c .skip-lenenc-str .ensures)
 
 returns-2 : tie.Need-returns-2
 returns-2 c =
@@ -92,49 +93,57 @@ returns-3 : tie.Need-returns-3
 returns-3 c =
     let d = c .before .before .before in
     let a = d .before .before .args in
-    skip-kind (a .s .now) (a .at) (a .column-type) (d .kind-of .result) (d .kind-of .ensures) K.Two _ (c .before .enum-told3 .given .1) (c .skip-bytes2 .ensures)
+    skip-kind (a .s .now) (a .at) (a .column-type) (d .kind-of .result) (d .kind-of .ensures) K.Two _ (c .before .enum-told3 .given .1)
+    (c .skip-bytes2 .ensures)
 
 returns-4 : tie.Need-returns-4
 returns-4 c =
     let d = c .before .before .before in
     let a = d .before .before .args in
-    skip-kind (a .s .now) (a .at) (a .column-type) (d .kind-of .result) (d .kind-of .ensures) K.Four _ (c .before .enum-told4 .given .1) (c .skip-bytes3 .ensures)
+    skip-kind (a .s .now) (a .at) (a .column-type) (d .kind-of .result) (d .kind-of .ensures) K.Four _ (c .before .enum-told4 .given .1)
+    (c .skip-bytes3 .ensures)
 
 returns-5 : tie.Need-returns-5
 returns-5 c =
     let d = c .before .before .before in
     let a = d .before .before .args in
-    skip-kind (a .s .now) (a .at) (a .column-type) (d .kind-of .result) (d .kind-of .ensures) K.Eight _ (c .before .enum-told5 .given .1) (c .skip-bytes4 .ensures)
+    skip-kind (a .s .now) (a .at) (a .column-type) (d .kind-of .result) (d .kind-of .ensures) K.Eight _ (c .before .enum-told5 .given .1)
+    (c .skip-bytes4 .ensures)
 
 returns-6 : tie.Need-returns-6
 returns-6 c =
     let d = c .before .before .before in
     let a = d .before .before .args in
-    skip-kind (a .s .now) (a .at) (a .column-type) (d .kind-of .result) (d .kind-of .ensures) K.Single _ (c .before .enum-told6 .given .1) (c .skip-bytes5 .ensures)
+    skip-kind (a .s .now) (a .at) (a .column-type) (d .kind-of .result) (d .kind-of .ensures) K.Single _ (c .before .enum-told6 .given .1)
+    (c .skip-bytes5 .ensures)
 
 returns-7 : tie.Need-returns-7
 returns-7 c =
     let d = c .before .before .before in
     let a = d .before .before .args in
-    skip-kind (a .s .now) (a .at) (a .column-type) (d .kind-of .result) (d .kind-of .ensures) K.Wide _ (c .before .enum-told7 .given .1) (c .skip-bytes6 .ensures)
+    skip-kind (a .s .now) (a .at) (a .column-type) (d .kind-of .result) (d .kind-of .ensures) K.Wide _ (c .before .enum-told7 .given .1)
+    (c .skip-bytes6 .ensures)
 
 returns-8 : tie.Need-returns-8
 returns-8 c =
     let d = c .before .before in
     let a = d .before .before .args in
-    skip-kind (a .s .now) (a .at) (a .column-type) (d .kind-of .result) (d .kind-of .ensures) K.Nil _ (c .enum-told8 .given .1) (sym (ap gives (add-zero (a .at))))
+    skip-kind (a .s .now) (a .at) (a .column-type) (d .kind-of .result) (d .kind-of .ensures) K.Nil _ (c .enum-told8 .given .1)
+    (sym (ap gives (add-zero (a .at))))
 
 returns-9 : tie.Need-returns-9
 returns-9 c =
     let d = c .before .before .before in
     let a = d .before .before .args in
-    skip-kind (a .s .now) (a .at) (a .column-type) (d .kind-of .result) (d .kind-of .ensures) K.Day _ (c .before .enum-told9 .given .1) (c .skip-u8-str .ensures)
+    skip-kind (a .s .now) (a .at) (a .column-type) (d .kind-of .result) (d .kind-of .ensures) K.Day _ (c .before .enum-told9 .given .1)
+    (c .skip-u8-str .ensures)
 
 returns-10 : tie.Need-returns-10
 returns-10 c =
     let d = c .before .before .before in
     let a = d .before .before .args in
-    skip-kind (a .s .now) (a .at) (a .column-type) (d .kind-of .result) (d .kind-of .ensures) K.Clock _ (c .before .enum-told10 .given .1) (c .skip-u8-str2 .ensures)
+    skip-kind (a .s .now) (a .at) (a .column-type) (d .kind-of .result) (d .kind-of .ensures) K.Clock _ (c .before .enum-told10 .given .1)
+    (c .skip-u8-str2 .ensures)
 
 returns-11 : tie.Need-returns-11
 returns-11 c =

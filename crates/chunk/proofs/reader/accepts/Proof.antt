@@ -15,7 +15,11 @@ enum-known-x : tie.Need-enum-known-x
 enum-known-x c = search needs
 
 returns-2 : tie.Need-returns-2
-returns-2 c = rw (c .before .before .x .given .1, eq-eqb (c .before .before .before .before .args .number) (c .before .before .before .before .args .want) (c .if2 .taken))
+returns-2 c = rw (
+  c .before .before .x .given .1,
+  eq-eqb (c .before .before .before .before .args .number)
+      (c .before .before .before .before .args .want) (c .if2 .taken),
+)
 
 returns-3 : tie.Need-returns-3
 returns-3 c =

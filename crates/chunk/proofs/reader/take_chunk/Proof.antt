@@ -37,7 +37,12 @@ returns : tie.Need-returns
 returns c =
     let a = c .before .before .before .before .before .before .before .before .before .before .args in
     let e = took-more largest (a .st) (a .len) (a .number) (a .src .now) (a .dst .now) (c .before .if1 .taken) in
-    rw (e, c .pass .ensures, took-put (a .st .taken) (a .len) (a .src .now) (a .dst .now) (c .before .before .before .before .before .copy .last .0) (c .before .before .before .before .before .copy .ensures))
+    rw (
+      e,
+      c .pass .ensures,
+      took-put (a .st .taken) (a .len) (a .src .now) (a .dst .now) (c .before .before .before .before .before .copy .last .0)
+          (c .before .before .before .before .before .copy .ensures),
+    )
 
 pass-requires-2 : tie.Need-pass-requires-2
 pass-requires-2 c κs = search needs
@@ -49,7 +54,12 @@ returns-2 : tie.Need-returns-2
 returns-2 c =
     let a = c .before .before .before .before .before .before .before .before .before .before .args in
     let e = took-last largest (a .st) (a .len) (a .number) (a .src .now) (a .dst .now) (c .before .if1 .left) in
-    rw (e, c .pass2 .ensures, took-put (a .st .taken) (a .len) (a .src .now) (a .dst .now) (c .before .before .before .before .before .copy .last .0) (c .before .before .before .before .before .copy .ensures))
+    rw (
+      e,
+      c .pass2 .ensures,
+      took-put (a .st .taken) (a .len) (a .src .now) (a .dst .now) (c .before .before .before .before .before .copy .last .0)
+          (c .before .before .before .before .before .copy .ensures),
+    )
 
 pub take-chunk-spec : {M : Type 1} → statement M
 take-chunk-spec =

@@ -19,7 +19,8 @@ same-length c = search needs
 returns : tie.Need-returns
 returns c =
     let a = c .before .before .before .before .before .before .before .args in
-    c .before .before .chunk .ensures ∙ sym (turn-held largest (a .x) (a .st) (a .src .now) (a .dst .now) (a .st .len) (a .st .ahead) (rw (c .before .before .before .before .if1 .taken)))
+    c .before .before .chunk .ensures ∙ sym (turn-held largest (a .x) (a .st) (a .src .now) (a .dst .now) (a .st .len) (a .st .ahead)
+    (rw (c .before .before .before .before .if1 .taken)))
 
 stop-requires : tie.Need-stop-requires
 stop-requires c κs = search needs
@@ -38,7 +39,9 @@ same-length-2 c = search needs
 returns-3 : tie.Need-returns-3
 returns-3 c =
     let a = c .before .before .before .before .before .before .before .before .args in
-    c .before .before .headed-chunk .ensures ∙ sym (turn-headed largest (a .x) (a .st) (a .src .now) (a .dst .now) (rw (c .before .before .before .before .before .if1 .left)) (c .before .before .before .before .if2 .left))
+    c .before .before .headed-chunk .ensures ∙ sym
+    (turn-headed largest (a .x) (a .st) (a .src .now) (a .dst .now) (rw (c .before .before .before .before .before .if1 .left))
+    (c .before .before .before .before .if2 .left))
 
 pub turn-spec : {M : Type 1} → statement M
 turn-spec =

@@ -37,7 +37,8 @@ returns : tie.Need-returns
 returns c =
     let w = c .before .before .before .before .before .before in
     let s = w .before .before .before .before in
-    chunk-put (s .args .dst .now) (s .args .at) (s .args .number) (s .args .part .now) (w .put-le .last .0) (c .before .before .copy .last .0) (s .pre) (w .put-le .ensures) (c .before .before .copy .ensures)
+    chunk-put (s .args .dst .now) (s .args .at) (s .args .number) (s .args .part .now) (w .put-le .last .0) (c .before .before .copy .last .0)
+    (s .pre) (w .put-le .ensures) (c .before .before .copy .ensures)
 
 pub put-chunk-spec : {M : Type 1} → statement M
 put-chunk-spec =

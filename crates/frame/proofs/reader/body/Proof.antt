@@ -27,7 +27,8 @@ stop-requires c κs = search needs
 returns : tie.Need-returns
 returns c =
     let a = c .before .before .before .before .before .args in
-    let h : length (a .src .now) < a .len + 7 = omega (arith, has-no (7 + a .len) (length (a .src .now)) (c .before .before .has .ensures) (not-true _ (c .before .if1 .taken))) in
+    let h : length (a .src .now) < a .len + 7 = omega
+    (arith, has-no (7 + a .len) (length (a .src .now)) (c .before .before .has .ensures) (not-true _ (c .before .if1 .taken))) in
     λ b. rw (body-short (a .codec) (a .len) (a .number) (a .src .now) (unreadOf (a .codec) (a .staging .now)) (length (a .staging .now)) b h, c .stop .ensures)
 
 close-requires : tie.Need-close-requires
@@ -43,7 +44,12 @@ returns-2 c =
     let z = c .before .before .before .before in
     let h : a .len + 7 ≤ length (a .src .now) =
     omega (arith, has-yes (7 + a .len) (length (a .src .now)) (z .before .has .ensures) (not-false _ (z .if1 .left))) in
-    λ b. rw (body-sync (a .codec) (a .len) (a .number) (a .src .now) (unreadOf (a .codec) (a .staging .now)) (length (a .staging .now)) b h (c .before .before .if2 .taken), c .stop2 .ensures, c .before .close .ensures)
+    λ b. rw (
+      body-sync (a .codec) (a .len) (a .number) (a .src .now) (unreadOf (a .codec) (a .staging .now)) (length (a .staging .now)) b h
+          (c .before .before .if2 .taken),
+      c .stop2 .ensures,
+      c .before .close .ensures,
+    )
 
 sub-if3 : tie.Need-sub-if3
 sub-if3 c = search needs
@@ -57,8 +63,13 @@ returns-3 c =
     let z = c .before .before .before .before .before in
     let h : a .len + 7 ≤ length (a .src .now) =
     omega (arith, has-yes (7 + a .len) (length (a .src .now)) (z .before .has .ensures) (not-false _ (z .if1 .left))) in
-    let r : length (a .staging .now) < a .codec .unread + a .len = omega (arith, c .before .if3 .taken, c .before .before .before .before .before .before .before .before .before .pre) in
-    λ b. rw (body-no-room (a .codec) (a .len) (a .number) (a .src .now) (unreadOf (a .codec) (a .staging .now)) (length (a .staging .now)) b h (c .before .before .before .if2 .left) r, c .stop3 .ensures)
+    let r : length (a .staging .now) < a .codec .unread + a .len = omega
+    (arith, c .before .if3 .taken, c .before .before .before .before .before .before .before .before .before .pre) in
+    λ b. rw (
+      body-no-room (a .codec) (a .len) (a .number) (a .src .now) (unreadOf (a .codec) (a .staging .now)) (length (a .staging .now)) b h
+          (c .before .before .before .if2 .left) r,
+      c .stop3 .ensures,
+    )
 
 take-frame-requires : tie.Need-take-frame-requires
 take-frame-requires c κs =
@@ -77,7 +88,11 @@ returns-4 c =
     let z = c .before .before .before .before .before .before .before .before in
     let h : a .len + 7 ≤ length (a .src .now) =
     omega (arith, has-yes (7 + a .len) (length (a .src .now)) (z .before .has .ensures) (not-false _ (z .if1 .left))) in
-    let r : a .codec .unread + a .len ≤ length (a .staging .now) = omega (arith, c .before .before .before .before .if3 .left, c .before .before .before .before .before .before .before .before .before .before .before .before .pre) in
+    let r : a .codec .unread + a .len ≤ length (a .staging .now) = omega (
+      arith,
+      c .before .before .before .before .if3 .left,
+      c .before .before .before .before .before .before .before .before .before .before .before .before .pre,
+    ) in
     let unread = unreadOf (a .codec) (a .staging .now) in
     let room = length (a .staging .now) in
     let m = c .before .before .before .before .before .before .if2 .left in

@@ -35,14 +35,20 @@ sub-left c =
     let d = c .before .before .before .decode-with in
     let s = c .before .before .before .before .before .before .before .before .before .before in
     let a = s .args in
-    drain-fits (a .codec) (a .staging .now) (a .dst .now) (d .last .0) (c .before .before .before .before .before .before .before .last-number .result) (c .before .before .before .before .before .plain-of .result) (d .result) (s .pre) (c .before .before .before .before .before .plain-of .ensures) (d .ensures)
+    drain-fits (a .codec) (a .staging .now) (a .dst .now) (d .last .0)
+    (c .before .before .before .before .before .before .before .last-number .result)
+    (c .before .before .before .before .before .plain-of .result) (d .result) (s .pre)
+    (c .before .before .before .before .before .plain-of .ensures) (d .ensures)
 
 shift-left-requires : tie.Need-shift-left-requires
 shift-left-requires c κs =
     let d = c .before .before .before .before .decode-with in
     let s = c .before .before .before .before .before .before .before .before .before .before .before in
     let a = s .args in
-    let f = drain-fits (a .codec) (a .staging .now) (a .dst .now) (d .last .0) (c .before .before .before .before .before .before .before .before .last-number .result) (c .before .before .before .before .before .before .plain-of .result) (d .result) (s .pre) (c .before .before .before .before .before .before .plain-of .ensures) (d .ensures) in
+    let f = drain-fits (a .codec) (a .staging .now) (a .dst .now) (d .last .0)
+    (c .before .before .before .before .before .before .before .before .last-number .result)
+    (c .before .before .before .before .before .before .plain-of .result) (d .result) (s .pre)
+    (c .before .before .before .before .before .before .plain-of .ensures) (d .ensures) in
     (omega arith, omega (arith, f, s .pre))
 
 with-plain-requires : tie.Need-with-plain-requires
@@ -59,7 +65,13 @@ returns c =
     let d = c .before .before .before .before .before .before .before .before .decode-with in
     let s = c .before .before .before .before .before .before .before .before .before .before .before .before .before .before .before in
     let a = s .args in
-    drain-is (a .codec) (a .staging .now) (a .dst .now) (d .last .0) (c .before .before .before .before .before .before .before .before .before .before .before .before .last-number .result) (c .before .before .before .before .before .before .before .before .before .before .plain-of .result) (d .result) (s .pre) (c .before .before .before .before .before .before .before .before .before .before .plain-of .ensures) (d .ensures) (c .with-plain .result) (c .before .before .before .shift-left .last .0) (c .before .before .before .before .before .before .before .before .before .before .before .before .last-number .ensures) (c .with-plain .ensures) (c .before .before .before .shift-left .ensures)
+    drain-is (a .codec) (a .staging .now) (a .dst .now) (d .last .0)
+    (c .before .before .before .before .before .before .before .before .before .before .before .before .last-number .result)
+    (c .before .before .before .before .before .before .before .before .before .before .plain-of .result) (d .result) (s .pre)
+    (c .before .before .before .before .before .before .before .before .before .before .plain-of .ensures) (d .ensures)
+    (c .with-plain .result) (c .before .before .before .shift-left .last .0)
+    (c .before .before .before .before .before .before .before .before .before .before .before .before .last-number .ensures)
+    (c .with-plain .ensures) (c .before .before .before .shift-left .ensures)
 
 pub drain-spec : {M : Type 1} → statement M
 drain-spec =

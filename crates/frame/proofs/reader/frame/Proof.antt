@@ -32,7 +32,11 @@ stop-requires c κs = search needs
 returns-2 : tie.Need-returns-2
 returns-2 c =
     let a = c .before .before .before .before .before .args in
-    λ b. rw (frame-short (a .codec) (a .src .now) (unreadOf (a .codec) (a .staging .now)) (length (a .staging .now)) b (rw (c .before .before .if1 .left)) (c .before .if2 .taken), c .stop .ensures)
+    λ b. rw (
+      frame-short (a .codec) (a .src .now) (unreadOf (a .codec) (a .staging .now)) (length (a .staging .now)) b
+          (rw (c .before .before .if1 .left)) (c .before .if2 .taken),
+      c .stop .ensures,
+    )
 
 header-requires : tie.Need-header-requires
 header-requires c κs = search needs

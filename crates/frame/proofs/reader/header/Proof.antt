@@ -37,7 +37,12 @@ returns c =
     let a = c .before .before .before .before .before .before .before .before .before .args in
     let s = a .src .now in
     let l = c .before .before .before .before .before .before .le .ensures .0 in
-    λ b. rw (headed-large (a .codec) (leAt s 0 3) (getD s 3 0) (leAt s 4 3) s (unreadOf (a .codec) (a .staging .now)) (length (a .staging .now)) b (rw l at (c .before .before .if1 .taken)), c .stop .ensures, c .before .close .ensures)
+    λ b. rw (
+      headed-large (a .codec) (leAt s 0 3) (getD s 3 0) (leAt s 4 3) s (unreadOf (a .codec) (a .staging .now)) (length (a .staging .now)) b
+          (rw l at (c .before .before .if1 .taken)),
+      c .stop .ensures,
+      c .before .close .ensures,
+    )
 
 close-requires-2 : tie.Need-close-requires-2
 close-requires-2 c κs = search needs
@@ -52,7 +57,12 @@ returns-2 c =
     let s = a .src .now in
     let l = c .before .before .before .before .before .before .before .before .le .ensures .0 in
     let l2 = c .before .before .before .before .before .before .le2 .ensures .0 in
-    λ b. rw (headed-full (a .codec) (leAt s 0 3) (getD s 3 0) (leAt s 4 3) s (unreadOf (a .codec) (a .staging .now)) (length (a .staging .now)) b (rw l at (c .before .before .before .before .if1 .left)) (rw l2 at (c .before .before .if2 .taken)), c .stop2 .ensures, c .before .close2 .ensures)
+    λ b. rw (
+      headed-full (a .codec) (leAt s 0 3) (getD s 3 0) (leAt s 4 3) s (unreadOf (a .codec) (a .staging .now)) (length (a .staging .now)) b
+          (rw l at (c .before .before .before .before .if1 .left)) (rw l2 at (c .before .before .if2 .taken)),
+      c .stop2 .ensures,
+      c .before .close2 .ensures,
+    )
 
 body-requires : tie.Need-body-requires
 body-requires c κs = search needs
@@ -66,7 +76,10 @@ returns-3 c =
     let s = a .src .now in
     let l = c .before .before .before .before .before .before .before .before .before .before .before .before .le .ensures .0 in
     let l2 = c .before .before .before .before .before .before .before .before .before .before .le2 .ensures .0 in
-    λ b. rw (headed-empty (a .codec) (leAt s 0 3) (getD s 3 0) (leAt s 4 3) s (unreadOf (a .codec) (a .staging .now)) (length (a .staging .now)) b (rw l at (c .before .before .before .before .before .before .before .before .if1 .left)) (rw l2 at (c .before .before .before .before .before .before .if2 .left)) (sym l ∙ c .before .before .before .before .before .if3 .taken) (sym l2 ∙ c .before .before .before .before .if4 .taken)) (c .before .before .body .ensures b)
+    λ b. rw (headed-empty (a .codec) (leAt s 0 3) (getD s 3 0) (leAt s 4 3) s (unreadOf (a .codec) (a .staging .now)) (length (a .staging .now)) b
+    (rw l at (c .before .before .before .before .before .before .before .before .if1 .left))
+    (rw l2 at (c .before .before .before .before .before .before .if2 .left)) (sym l ∙ c .before .before .before .before .before .if3 .taken)
+    (sym l2 ∙ c .before .before .before .before .if4 .taken)) (c .before .before .body .ensures b)
 
 close-requires-3 : tie.Need-close-requires-3
 close-requires-3 c κs = search needs
@@ -81,7 +94,13 @@ returns-4 c =
     let s = a .src .now in
     let l = c .before .before .before .before .before .before .before .before .before .before .le .ensures .0 in
     let l2 = c .before .before .before .before .before .before .before .before .le2 .ensures .0 in
-    λ b. rw (headed-bad (a .codec) (leAt s 0 3) (getD s 3 0) (leAt s 4 3) s (unreadOf (a .codec) (a .staging .now)) (length (a .staging .now)) b (rw l at (c .before .before .before .before .before .before .if1 .left)) (rw l2 at (c .before .before .before .before .if2 .left)) (sym l ∙ c .before .before .before .if3 .taken) (rw l2 at (c .before .before .if4 .left)), c .stop3 .ensures, c .before .close3 .ensures)
+    λ b. rw (
+      headed-bad (a .codec) (leAt s 0 3) (getD s 3 0) (leAt s 4 3) s (unreadOf (a .codec) (a .staging .now)) (length (a .staging .now)) b
+          (rw l at (c .before .before .before .before .before .before .if1 .left)) (rw l2 at (c .before .before .before .before .if2 .left))
+          (sym l ∙ c .before .before .before .if3 .taken) (rw l2 at (c .before .before .if4 .left)),
+      c .stop3 .ensures,
+      c .before .close3 .ensures,
+    )
 
 hold-requires : tie.Need-hold-requires
 hold-requires c κs = search needs
@@ -99,7 +118,16 @@ returns-5 c =
     let s = a .src .now in
     let l = c .before .before .before .before .before .before .before .before .before .before .before .before .before .le .ensures .0 in
     let l2 = c .before .before .before .before .before .before .before .before .before .before .before .le2 .ensures .0 in
-    λ b. c .before .before .body2 .ensures b ∙ rw (c .before .before .before .hold .ensures, l, headed-held (a .codec) (leAt s 0 3) (getD s 3 0) (leAt s 4 3) s (unreadOf (a .codec) (a .staging .now)) (length (a .staging .now)) b (rw l at (c .before .before .before .before .before .before .before .before .before .if1 .left)) (rw l2 at (c .before .before .before .before .before .before .before .if2 .left)) (rw l at (c .before .before .before .before .before .before .if3 .left)) (sym l2 ∙ c .before .before .before .before .before .if5 .taken))
+    λ b. c .before .before .body2 .ensures b ∙ rw (
+      c .before .before .before .hold .ensures,
+      l,
+      headed-held (a .codec) (leAt s 0 3) (getD s 3 0) (leAt s 4 3) s
+          (unreadOf (a .codec) (a .staging .now)) (length (a .staging .now)) b
+          (rw l at (c .before .before .before .before .before .before .before .before .before .if1 .left))
+          (rw l2 at (c .before .before .before .before .before .before .before .if2 .left))
+          (rw l at (c .before .before .before .before .before .before .if3 .left))
+          (sym l2 ∙ c .before .before .before .before .before .if5 .taken),
+    )
 
 close-requires-4 : tie.Need-close-requires-4
 close-requires-4 c κs = search needs
@@ -114,7 +142,13 @@ returns-6 c =
     let s = a .src .now in
     let l = c .before .before .before .before .before .before .before .before .before .before .le .ensures .0 in
     let l2 = c .before .before .before .before .before .before .before .before .le2 .ensures .0 in
-    λ b. rw (headed-packed (a .codec) (leAt s 0 3) (getD s 3 0) (leAt s 4 3) s (unreadOf (a .codec) (a .staging .now)) (length (a .staging .now)) b (rw l at (c .before .before .before .before .before .before .if1 .left)) (rw l2 at (c .before .before .before .before .if2 .left)) (rw l at (c .before .before .before .if3 .left)) (rw l2 at (c .before .before .if5 .left)), c .stop4 .ensures, c .before .close4 .ensures)
+    λ b. rw (
+      headed-packed (a .codec) (leAt s 0 3) (getD s 3 0) (leAt s 4 3) s (unreadOf (a .codec) (a .staging .now)) (length (a .staging .now)) b
+          (rw l at (c .before .before .before .before .before .before .if1 .left)) (rw l2 at (c .before .before .before .before .if2 .left))
+          (rw l at (c .before .before .before .if3 .left)) (rw l2 at (c .before .before .if5 .left)),
+      c .stop4 .ensures,
+      c .before .close4 .ensures,
+    )
 
 pub header-spec : {M : Type 1} → statement M
 header-spec =

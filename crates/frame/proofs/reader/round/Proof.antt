@@ -22,7 +22,8 @@ returns : tie.Need-returns
 returns c =
     let a = c .before .before .before .before .before .before .before .before .before .before .before .args in
     let f = c .before .before .frame in
-    round-empty (a .codec) (a .src .now) (a .staging .now) (a .dst .now) (doneOf (f .result) (f .last .0) (a .dst .now)) (c .before .before .before .before .before .before .if1 .taken) (not-true _ (c .before .before .before .before .if2 .taken)) (f .ensures (a .dst .now))
+    round-empty (a .codec) (a .src .now) (a .staging .now) (a .dst .now) (doneOf (f .result) (f .last .0) (a .dst .now))
+    (c .before .before .before .before .before .before .if1 .taken) (not-true _ (c .before .before .before .before .if2 .taken)) (f .ensures (a .dst .now))
 
 drain-requires : tie.Need-drain-requires
 drain-requires c κs = search needs
@@ -34,7 +35,12 @@ frame-requires-2 : tie.Need-frame-requires-2
 frame-requires-2 c κs =
     let d = c .before .before .before .before .before .before .before .before .drain in
     let a = c .before .before .before .before .before .before .before .before .before .before .before .before .before .before .before .before .args in
-    omega (arith, less (a .codec) (a .src .now) (a .staging .now) (a .dst .now) (d .last .0) (d .last .1 .0) (d .result) (d .ensures), d .kept .0, c .before .before .before .before .before .before .before .before .before .before .before .before .before .before .before .before .pre)
+    omega (
+      arith,
+      less (a .codec) (a .src .now) (a .staging .now) (a .dst .now) (d .last .0) (d .last .1 .0) (d .result) (d .ensures),
+      d .kept .0,
+      c .before .before .before .before .before .before .before .before .before .before .before .before .before .before .before .before .pre,
+    )
 
 same-length-2 : tie.Need-same-length-2
 same-length-2 c = search needs
@@ -45,9 +51,13 @@ same-length-3 c = search needs
 returns-2 : tie.Need-returns-2
 returns-2 c =
     let d = c .before .before .before .before .before .before .before .before .before .before .before .drain in
-    let a = c .before .before .before .before .before .before .before .before .before .before .before .before .before .before .before .before .before .before .before .args in
+    let up = c .before .before .before .before .before .before .before .before in
+    let a = up .before .before .before .before .before .before .before .before .before .before .before .args in
     let f = c .before .before .frame2 in
-    round-frame (a .codec) (a .src .now) (a .staging .now) (a .dst .now) (d .last .0) (d .last .1 .0) (d .result) (d .ensures) (doneOf (f .result) (f .last .0) (d .last .1 .0)) (sym (c .before .before .before .before .before .wants .ensures) ∙ c .before .before .before .before .if3 .taken) (d .kept .0) (f .ensures (d .last .1 .0))
+    round-frame (a .codec) (a .src .now) (a .staging .now) (a .dst .now) (d .last .0) (d .last .1 .0) (d .result) (d .ensures)
+    (doneOf (f .result) (f .last .0) (d .last .1 .0))
+    (sym (c .before .before .before .before .before .wants .ensures) ∙ c .before .before .before .before .if3 .taken) (d .kept .0)
+    (f .ensures (d .last .1 .0))
 
 same-length-4 : tie.Need-same-length-4
 same-length-4 c = search needs
@@ -59,7 +69,8 @@ returns-3 : tie.Need-returns-3
 returns-3 c =
     let d = c .before .before .before .before .before .before .before .drain in
     let a = c .before .before .before .before .before .before .before .before .before .before .before .before .before .before .before .args in
-    round-stop (a .codec) (a .src .now) (a .staging .now) (a .dst .now) (d .last .0) (d .last .1 .0) (d .result) (d .ensures) (sym (c .before .wants .ensures) ∙ c .if3 .left)
+    round-stop (a .codec) (a .src .now) (a .staging .now) (a .dst .now) (d .last .0) (d .last .1 .0) (d .result) (d .ensures)
+    (sym (c .before .wants .ensures) ∙ c .if3 .left)
 
 pub round-spec : {M : Type 1} → statement M
 round-spec =

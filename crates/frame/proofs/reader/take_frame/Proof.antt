@@ -35,7 +35,8 @@ returns : tie.Need-returns
 returns c =
     let s = c .before .before .before .before .before .before .before .before .before in
     let a = s .args in
-    λ b. frame-taken (a .codec) (c .pass .result) (a .len) (a .src .now) (a .staging .now) (c .before .before .before .before .copy .last .0) b (s .pre .0) (s .pre .1) (c .pass .ensures) (c .before .before .before .before .copy .ensures)
+    λ b. frame-taken (a .codec) (c .pass .result) (a .len) (a .src .now) (a .staging .now) (c .before .before .before .before .copy .last .0) b
+    (s .pre .0) (s .pre .1) (c .pass .ensures) (c .before .before .before .before .copy .ensures)
 
 pub take-frame-spec : {M : Type 1} → statement M
 take-frame-spec =

@@ -48,8 +48,12 @@ loop-less c = search needs
 loop-again : tie.Need-loop-again Inv-loop μ-loop
 loop-again c =
     let l = c .before .before in
-    let a = l .before .before .args in
-    (omega arith, rw (add-one, l .loop .inv .1) (moved-store (a .s .now) (a .to) (a .from) (a .n) (l .loop .i) (omega arith) (omega arith) (omega arith)), simp length-set (l .loop .inv .2))
+    let a = l .before .before .args in (
+      omega arith,
+      rw (add-one, l .loop .inv .1)
+          (moved-store (a .s .now) (a .to) (a .from) (a .n) (l .loop .i) (omega arith) (omega arith) (omega arith)),
+      simp length-set (l .loop .inv .2),
+    )
 
 same-length : tie.Need-same-length Inv-loop μ-loop
 same-length c = search needs

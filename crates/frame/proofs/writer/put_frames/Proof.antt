@@ -53,7 +53,8 @@ loop-again c =
     let a = c .before .before .before .before .before .before .before .before .args in
     let f = c .before .before .before .put-frame in
     rw (c .wrapping-add-u8 .ensures)
-    (head-more (a .dst .now) (a .first) (a .total) (a .piece) (l .dst) (l .left) (l .out) (l .from) (l .number) (l .inv) (f .last .0) (omega arith) (f .kept .0) (f .ensures))
+    (head-more (a .dst .now) (a .first) (a .total) (a .piece) (l .dst) (l .left) (l .out) (l .from) (l .number) (l .inv) (f .last .0) (omega arith)
+    (f .kept .0) (f .ensures))
 
 put-frame-requires-2 : tie.Need-put-frame-requires-2 Inv-loop μ-loop
 put-frame-requires-2 c κs = search needs
@@ -72,7 +73,8 @@ returns c =
     let q = c .before .before .before .before .before .before .before .before .pre in
     let f = c .before .before .before .put-frame2 in
     rw (c .wrapping-add-u82 .ensures, q .2)
-    (head-last (a .dst .now) (a .first) (a .total) (a .piece) (l .dst) (l .left) (l .out) (l .from) (l .number) (l .inv) (f .last .0) (omega arith) (rw (q .2) at (q .3)) (q .1) (f .ensures))
+    (head-last (a .dst .now) (a .first) (a .total) (a .piece) (l .dst) (l .left) (l .out) (l .from) (l .number) (l .inv) (f .last .0) (omega arith)
+    (rw (q .2) at (q .3)) (q .1) (f .ensures))
 
 pub put-frames-spec : {M : Type 1} → statement M
 put-frames-spec =

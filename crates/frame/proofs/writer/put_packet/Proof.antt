@@ -32,8 +32,11 @@ returns c =
     let q = c .before .before .before .before .before .before .before .before .before .before .pre in
     let f = c .before .before .put-frames in
     let g = c .before .before .before .before .before .before .put-chunks in
-    let some : 0 < a .n = omega (arith, q .1) in
-    (f .ensures .0, packet-put (a .piece) (a .first) (a .plain) (a .n) (a .count) (a .packet .now) (a .dst .now) (g .last .0) (f .last .0) (q .0) (q .1) some (q .2) (q .3) (g .ensures .1) (f .ensures .1))
+    let some : 0 < a .n = omega (arith, q .1) in (
+      f .ensures .0,
+      packet-put (a .piece) (a .first) (a .plain) (a .n) (a .count) (a .packet .now) (a .dst .now) (g .last .0) (f .last .0) (q .0)
+          (q .1) some (q .2) (q .3) (g .ensures .1) (f .ensures .1),
+    )
 
 pub put-packet-spec : {M : Type 1} → statement M
 put-packet-spec =

@@ -53,7 +53,8 @@ returns-6 c =
     let seven : size + 7 - 7 ≡ size = omega arith in
     let eleven : size + 7 - 11 ≡ size - 4 = omega arith in
     λ z. record {
-      rest = c .before .before .before .before .before .before .before .before .idle-framed .ensures (not-false _ (c .before .before .before .before .before .before .before .if2 .left));
+      rest = c .before .before .before .before .before .before .before .before .idle-framed .ensures
+          (not-false _ (c .before .before .before .before .before .before .before .if2 .left));
       least = omega arith;
       size = sym (l .ensures .0) ∙ sym seven;
       header = rw seven (c .before .before .before .stored-frame .ensures (not-false _ (c .before .before .if5 .left)));

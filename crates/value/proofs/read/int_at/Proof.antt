@@ -34,7 +34,8 @@ returns : tie.Need-returns
 returns c =
     let b = c .before .before .before in
     let a = b .before .before .args in
-    fixed-read (a .s .now) (a .at) (a .k) (b .has .result) (b .has .ensures) (intOf (a .unsigned)) (c .int-of .result) (c .before .le .result) (c .before .before .if1 .taken) (c .int-of .ensures) (c .before .le .ensures .0)
+    fixed-read (a .s .now) (a .at) (a .k) (b .has .result) (b .has .ensures) (intOf (a .unsigned)) (c .int-of .result) (c .before .le .result)
+    (c .before .before .if1 .taken) (c .int-of .ensures) (c .before .le .ensures .0)
 
 returns-2 : tie.Need-returns-2
 returns-2 c =

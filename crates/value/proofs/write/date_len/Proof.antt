@@ -56,7 +56,12 @@ returns-3 c =
     let q = c .before .before .before .before in
     let p = q .before .before .before .before in
     let d = p .before .before .args .d in
-    simp (eq-eqb (d .micros) 0 (p .if1 .left), eq-eqb (d .hour + d .minutes + d .seconds) 0 (q .if2 .left), ne-eqb (d .year + d .month + d .day) 0 (c .if3 .taken))
+    simp (
+      eq-eqb (d .micros) 0 (p .if1 .left),
+      eq-eqb (d .hour + d .minutes + d .seconds) 0 (q .if2 .left),
+      ne-eqb (d .year + d .month + d .day) 0
+          (c .if3 .taken),
+    )
 
 returns-4 : tie.Need-returns-4
 unfolding dateLength
@@ -64,7 +69,12 @@ returns-4 c =
     let q = c .before .before .before .before in
     let p = q .before .before .before .before in
     let d = p .before .before .args .d in
-    simp (eq-eqb (d .micros) 0 (p .if1 .left), eq-eqb (d .hour + d .minutes + d .seconds) 0 (q .if2 .left), eq-eqb (d .year + d .month + d .day) 0 (c .if3 .left))
+    simp (
+      eq-eqb (d .micros) 0 (p .if1 .left),
+      eq-eqb (d .hour + d .minutes + d .seconds) 0 (q .if2 .left),
+      eq-eqb (d .year + d .month + d .day) 0
+          (c .if3 .left),
+    )
 
 pub date-len-spec : {M : Type 1} → statement M
 date-len-spec =

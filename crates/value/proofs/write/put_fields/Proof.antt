@@ -50,7 +50,12 @@ add-rest : tie.Need-add-rest
 add-rest c =
     let p = c .before .before .before .before .before in
     let a = p .before .before .before .before .args in
-    omega (arith, c .before .before .before .before .least .ensures, has-yes (a .at + (a .len + 1)) (length (a .dst .now)) (p .before .has .ensures) (p .if1 .taken))
+    omega (
+      arith,
+      c .before .before .before .before .least .ensures,
+      has-yes (a .at + (a .len + 1)) (length (a .dst .now)) (p .before .has .ensures)
+          (p .if1 .taken),
+    )
 
 sub-put-le : tie.Need-sub-put-le
 sub-put-le c = search needs
