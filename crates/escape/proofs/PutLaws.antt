@@ -1,5 +1,5 @@
--- What the writers lean on: bytes that lead, and the rest of the quoted form from a byte on.
-use Prim.Native.Nat.{ℕ, zero, suc, _+_, _-_, _≤_, _<_}
+-- What the writers lean on: which bytes become two, what they become in parts, and bytes that lead.
+use Prim.Native.Nat.{ℕ, _+_, _-_, _%_, _≤_, _<_}
 use mathlib.Core.Path.{_≡_, refl, sym, ap, _∙_}
 use mathlib.Core.Bool.{Bool, true, false, cond}
 use mathlib.Core.List.{List, [], _∷_, _++_, append-assoc, append-nil}
@@ -7,16 +7,16 @@ use native.Mathlib.Omega.{arith}
 use native.Mathlib.Decide.{ℕ-discrete}
 use native.Mathlib.Nat.{add-assoc, add-zero}
 use native.Mathlib.Numerals.{add-one}
-use lib.ListN.{length, take, drop, set, getD, length-append, length-take, length-drop, take-append-drop}
-use lib.Seq.{drop-length, drop-drop, take-suc, length-take-le, getD-drop, getD-take}
+use lib.ListN.{length, take, drop, set, getD, length-set, length-append, length-drop, take-append-drop}
+use lib.Seq.{drop-drop, drop-cons, take-suc, take-all, take-add, getD-drop, getD-take}
 use lib.Dec.{eqb}
 use borrow.Author.Tests.{ne-eqb, eq-eqb, eqb-true, eqb-false}
 use Rattle.wire.specs.Room.{patch}
-use Rattle.wire.specs.RoomLaws.{patch-append, patch-again, patch-one, patch-two, length-patch}
+use Rattle.wire.specs.RoomLaws.{patch-append, patch-again, patch-cons, patch-one, patch-two, length-patch}
 use Rattle.escape.specs.Quote.{quote, behind, becomes, body, quoted}
 use Rattle.escape.specs.QuoteLaws.{secondOf, moreOf, mores, body-length, becomes-itself, becomes-two}
-use Rattle.escape.specs.Turns.{markList, slotOf, allMarks, rest, Leads, Came, Bodied}
-use Rattle.escape.specs.declared.Step.{Step}
+use Rattle.escape.specs.Turns.{markOf, Marks, Slots, Leads, Leading}
+use Rattle.wire.specs.TableLaws.{every, every-at, tells, told-at}
 
 -- ---- which bytes become two, as a sum of comparisons
 
@@ -74,77 +74,24 @@ more-most m b = by (eqb (secondOf m b) 0)
     by true = omega arith
     by false = omega arith
 
--- ---- the list of marks
-
-abbrev pub keyOf : ℕ → ℕ
-keyOf b = getD markList (slotOf b) 0
-
-abbrev pub secondBy : ℕ → ℕ
-secondBy b = getD markList (slotOf b + 32) 0
-
--- a byte that gets a backslash stands at its slot
-listed : (b : ℕ) → (behind b ≡ 0 → ⊥) → (keyOf b ≡ b) × (secondBy b ≡ behind b)
-unfolding behind
-listed =
-    by-byte (λ b. (behind b ≡ 0 → ⊥) → (keyOf b ≡ b) × (secondBy b ≡ behind b)) (λ _. (refl, refl)) (λ _. (refl, refl)) (λ _. (refl, refl))
-    (λ _. (refl, refl)) (λ _. (refl, refl)) (λ _. (refl, refl)) (λ _. (refl, refl)) (λ b z _ n. absurd (n z))
-
--- and no other byte stands in the list
-all : List ℕ → Bool
-all [] = true
-all (x ∷ xs) = cond (eqb (behind x) 0) false (all xs)
-
-all-at : (xs : List ℕ) → all xs ≡ true → (i : ℕ) → i < length xs → behind (getD xs i 0) ≡ 0 → ⊥
-unfolding all
-all-at [] e i h z = absurd (omega arith)
-all-at (x ∷ xs) e i h z = by (eqb (behind x) 0) refl e (λ q j l. all-at xs q j l) i h z
-  where
-    by : (t : Bool) → eqb (behind x) 0 ≡ t → cond t false (all xs) ≡ true
-        → (all xs ≡ true → (j : ℕ) → j < length xs → behind (getD xs j 0) ≡ 0 → ⊥)
-        → (i : ℕ) → i < length (x ∷ xs) → behind (getD (x ∷ xs) i 0) ≡ 0 → ⊥
-    by true p q f i l z = absurd (let z : _≡_ {A = ℕ} 0 1 = cc in omega arith)
-    by false p q f zero l z = eqb-false (behind x) 0 p z
-    by false p q f (suc j) l z = f q j (omega arith) z
-
-all-marked : all (take 32 markList) ≡ true
-unfolding behind all
-all-marked = refl
-
-marked : (i : ℕ) → i < 32 → behind (getD markList i 0) ≡ 0 → ⊥
-marked i h z =
-    let n : length (take 32 markList) ≡ 32 = refl in
-    all-at (take 32 markList) all-marked i (omega (arith, n)) (ap behind (getD-take 32 markList i 0 h) ∙ z)
-
-unlisted : (b : ℕ) → behind b ≡ 0 → keyOf b ≡ b → ⊥
-unlisted b z e = marked (slotOf b) (omega arith) (ap behind e ∙ z)
-
 -- ---- bytes that lead
 
--- more was written than is counted
-pub leads-over : (bs more d : List ℕ) (at : ℕ) {d′ : List ℕ} → d′ ≡ patch d at (bs ++ more) → at + (length bs + length more) ≤ length d
-    → Leads (length more) bs d at d′
-leads-over bs more d at {d′} e l = record {
+-- a byte more was written than is counted
+pub leads-over : (xs d : List ℕ) (at y : ℕ) {d′ : List ℕ} → d′ ≡ patch d at (xs ++ (y ∷ [])) → at + (length xs + 1) ≤ length d → Leads xs d at d′
+leads-over xs d at y e l = record {
   then = λ x h r.
-      ap (λ (y : List ℕ). patch y (at + length bs) x) (e ∙ sym (patch-append d at bs more l))
-      ∙ patch-again (patch d at bs) (at + length bs) more x h (omega (arith, length-patch d at bs (omega arith)))
-      ∙ patch-append d at bs x r;
+      ap (λ (z : List ℕ). patch z (at + length xs) x) (e ∙ sym (patch-append d at xs (y ∷ []) l))
+      ∙ patch-again (patch d at xs) (at + length xs) (y ∷ []) x h (omega (arith, length-patch d at xs (omega arith)))
+      ∙ patch-append d at xs x r;
 }
 
--- fewer may be overwritten
-pub leads-least : {least more : ℕ} {bs d : List ℕ} {at : ℕ} {d′ : List ℕ} → least ≤ more → Leads least bs d at d′ → Leads more bs d at d′
-leads-least l p = record { then = λ x h r. p .then x (omega arith) r }
-
 -- exactly those were written
-pub leads-put : (least : ℕ) (bs d : List ℕ) (at : ℕ) {d′ : List ℕ} → d′ ≡ patch d at bs → Leads least bs d at d′
-leads-put least bs d at e = record { then = λ x h r. ap (λ (y : List ℕ). patch y (at + length bs) x) e ∙ patch-append d at bs x r }
-
-pub leads-none : (least : ℕ) (d : List ℕ) (at : ℕ) → Leads least [] d at d
-leads-none least d at = record { then = λ x h r. ap (λ (k : ℕ). patch d k x) (add-zero at) }
+pub leads-put : (xs d : List ℕ) (at : ℕ) {d′ : List ℕ} → d′ ≡ patch d at xs → Leads xs d at d′
+leads-put xs d at e = record { then = λ x h r. ap (λ (z : List ℕ). patch z (at + length xs) x) e ∙ patch-append d at xs x r }
 
 -- one behind the other
-pub leads-join : {least : ℕ} {a b d : List ℕ} {at : ℕ} {d′ d″ : List ℕ} → Leads least a d at d′ → Leads least b d′ (at + length a) d″
-    → length d′ ≡ length d → Leads least (a ++ b) d at d″
-leads-join {least} {a} {b} {d} {at} {d′} {d″} p q e =
+leads-join : {a b d : List ℕ} {at : ℕ} {d′ d″ : List ℕ} → Leads a d at d′ → Leads b d′ (at + length a) d″ → length d′ ≡ length d → Leads (a ++ b) d at d″
+leads-join {a} {b} {d} {at} {d′} {d″} p q e =
     let n : length (a ++ b) ≡ length a + length b = length-append a b in
     record {
       then = λ x h r.
@@ -158,24 +105,53 @@ leads-join {least} {a} {b} {d} {at} {d′} {d″} p q e =
 
 -- ---- one byte
 
-pub escape-count : (b : ℕ) → cond (eqb (keyOf b) b) 2 1 ≡ length (becomes false b)
-unfolding secondOf
-escape-count b = elim (ℕ-discrete (behind b) 0) [
-  | yes e ↦ simp (ne-eqb (keyOf b) b (unlisted b e), becomes-itself false b e)
-  | no n ↦ simp (eq-eqb (keyOf b) b (listed b n .0), becomes-two false b n)
-]
+pub leading-one : (m : Bool) (b : ℕ) {xs d : List ℕ} {at r : ℕ} {d′ : List ℕ} → becomes m b ≡ xs → r ≡ at + length xs → Leads xs d at d′
+    → Leading m (b ∷ []) d at r d′
+unfolding body
+leading-one m b e k p =
+    let same : body m (b ∷ []) ≡ _ = append-nil (becomes m b) ∙ e in
+    record { place = rw same k; leads = rw same p }
 
--- two bytes are written, of which the second may be one too many
-pub escape-leads : (d : List ℕ) (at b : ℕ) → at + 2 ≤ length d
-    → Leads 1 (becomes false b) d at (set (set d at (cond (eqb (keyOf b) b) 0x5C b)) (at + 1) (secondBy b))
+-- two bytes are written, of which the second may be one too many: by the short list
+module _ (l : List ℕ) (s : Slots l) (d : List ℕ) (at b : ℕ) (h : at + 2 ≤ length d) where
+  abbrev key : ℕ
+  key = getD l (b % 32) 0
+
+  pub escape-leading : {r : ℕ} → r ≡ at + cond (eqb key b) 2 1
+      → Leading false (b ∷ []) d at r (set (set d at (cond (eqb key b) 0x5C b)) (at + 1) (getD l (b % 32 + 32) 0))
+  unfolding secondOf
+  escape-leading e = elim (ℕ-discrete (behind b) 0) [
+    | yes z ↦
+        let miss = ne-eqb key b (s .unlisted b z) in
+        rw (miss) (leading-one false b (becomes-itself false b z) (rw (miss) at e)
+        (leads-over (b ∷ []) d at _ (patch-two d at b (getD l (b % 32 + 32) 0) h) h))
+    | no n ↦
+        let hit = eq-eqb key b (s .listed b n .0) in
+        rw (hit, s .listed b n .1) (leading-one false b (becomes-two false b n) (rw (hit) at e)
+        (leads-put (0x5C ∷ behind b ∷ []) d at (patch-two d at 0x5C (behind b) h)))
+  ]
+
+-- no mark is the point
+not-point : (b : ℕ) → behind b ≡ 0x2E → ⊥
+unfolding behind
+not-point =
+    by-byte (λ b. behind b ≡ 0x2E → ⊥) (λ e. absurd (omega arith)) (λ e. absurd (omega arith)) (λ e. absurd (omega arith)) (λ e. absurd (omega arith))
+    (λ e. absurd (omega arith)) (λ e. absurd (omega arith)) (λ e. absurd (omega arith)) (λ b z _ e. absurd (omega arith))
+
+-- ... and by the list of all
+pub listed-leading : (d : List ℕ) (at b mark : ℕ) {r : ℕ} → at + 2 ≤ length d → mark ≡ markOf b → r ≡ at + cond (eqb mark 0x2E) 1 2
+    → Leading false (b ∷ []) d at r (set (set d at (cond (eqb mark 0x2E) b 0x5C)) (at + 1) mark)
 unfolding secondOf
-escape-leads d at b l = elim (ℕ-discrete (behind b) 0) [
-  | yes e ↦
-      simp (ne-eqb (keyOf b) b (unlisted b e), becomes-itself false b e)
-      (leads-over (b ∷ []) (secondBy b ∷ []) d at (patch-two d at b (secondBy b) l) l)
+listed-leading d at b mark h k e = elim (ℕ-discrete (behind b) 0) [
+  | yes z ↦
+      let point : mark ≡ 0x2E = k ∙ simp (eq-eqb (behind b) 0 z) in
+      let is = eq-eqb mark 0x2E point in
+      rw is (leading-one false b (becomes-itself false b z) (rw is at e) (leads-over (b ∷ []) d at mark (patch-two d at b mark h) h))
   | no n ↦
-      simp (eq-eqb (keyOf b) b (listed b n .0), listed b n .1, becomes-two false b n)
-      (leads-put 1 (0x5C ∷ behind b ∷ []) d at (patch-two d at 0x5C (behind b) l))
+      let second : mark ≡ behind b = k ∙ simp (ne-eqb (behind b) 0 n) in
+      let is = ne-eqb mark 0x2E (λ p. not-point b (sym second ∙ p)) in
+      rw is (leading-one false b (becomes-two false b n ∙ ap (λ (y : ℕ). 0x5C ∷ y ∷ []) (sym second)) (rw is at e)
+      (leads-put (0x5C ∷ mark ∷ []) d at (patch-two d at 0x5C mark h)))
 ]
 
 pub double-two : (b : ℕ) → b ≡ quote → becomes true b ≡ b ∷ b ∷ []
@@ -186,58 +162,47 @@ pub double-one : (b : ℕ) → (b ≡ quote → ⊥) → becomes true b ≡ b �
 unfolding becomes
 double-one b n = simp (ne-eqb b quote n)
 
--- ---- the list of all marks
+-- ---- the lists that the code has
 
-abbrev pub markOf : ℕ → ℕ
-markOf b = cond (eqb (behind b) 0) 0x2E (behind b)
+-- no byte but those that get a backslash stands at a slot
+special : ℕ → ℕ → Bool
+special i x = cond (eqb (behind x) 0) false true
 
--- no mark is the point
-not-point : (b : ℕ) → behind b ≡ 0x2E → ⊥
+is-special : (i x : ℕ) → special i x ≡ true → behind x ≡ 0 → ⊥
+unfolding special
+is-special i x e z = let f : false ≡ true = rw (eq-eqb (behind x) 0 z) at e in absurd (let y : _≡_ {A = ℕ} 0 1 = cc in omega arith)
+
+abbrev short : List ℕ
+short =
+    0x00 ∷ 0x27 ∷ 0x22 ∷ 0x27 ∷ 0x27 ∷ 0x27 ∷ 0x27 ∷ 0x27 ∷ 0x27 ∷ 0x27 ∷ 0x0A ∷ 0x27 ∷ 0x27 ∷ 0x0D ∷ 0x27 ∷ 0x27 ∷
+    0x27 ∷ 0x27 ∷ 0x27 ∷ 0x27 ∷ 0x27 ∷ 0x27 ∷ 0x27 ∷ 0x27 ∷ 0x27 ∷ 0x27 ∷ 0x1A ∷ 0x27 ∷ 0x5C ∷ 0x27 ∷ 0x27 ∷ 0x27 ∷
+    0x30 ∷ 0x27 ∷ 0x22 ∷ 0x27 ∷ 0x27 ∷ 0x27 ∷ 0x27 ∷ 0x27 ∷ 0x27 ∷ 0x27 ∷ 0x6E ∷ 0x27 ∷ 0x27 ∷ 0x72 ∷ 0x27 ∷ 0x27 ∷
+    0x27 ∷ 0x27 ∷ 0x27 ∷ 0x27 ∷ 0x27 ∷ 0x27 ∷ 0x27 ∷ 0x27 ∷ 0x27 ∷ 0x27 ∷ 0x5A ∷ 0x27 ∷ 0x5C ∷ 0x27 ∷ 0x27 ∷ 0x27 ∷ []
+
+short-listed : (b : ℕ) → (behind b ≡ 0 → ⊥) → (getD short (b % 32) 0 ≡ b) × (getD short (b % 32 + 32) 0 ≡ behind b)
 unfolding behind
-not-point =
-    by-byte (λ b. behind b ≡ 0x2E → ⊥) (λ e. absurd (omega arith)) (λ e. absurd (omega arith)) (λ e. absurd (omega arith)) (λ e. absurd (omega arith))
-    (λ e. absurd (omega arith)) (λ e. absurd (omega arith)) (λ e. absurd (omega arith)) (λ b z _ e. absurd (omega arith))
+short-listed =
+    by-byte (λ b. (behind b ≡ 0 → ⊥) → (getD short (b % 32) 0 ≡ b) × (getD short (b % 32 + 32) 0 ≡ behind b))
+    (λ _. (refl, refl)) (λ _. (refl, refl)) (λ _. (refl, refl)) (λ _. (refl, refl)) (λ _. (refl, refl)) (λ _. (refl, refl)) (λ _. (refl, refl))
+    (λ b z _ n. absurd (n z))
 
-agree : ℕ → List ℕ → Bool
-agree n [] = true
-agree n (x ∷ xs) = cond (eqb x (markOf n)) (agree (suc n) xs) false
+short-special : every special 0 (take 32 short) ≡ true
+unfolding behind special every
+short-special = refl
 
-agree-at : (n : ℕ) (xs : List ℕ) → agree n xs ≡ true → (i : ℕ) → i < length xs → getD xs i 0 ≡ markOf (n + i)
-unfolding agree
-agree-at n [] e i h = absurd (omega arith)
-agree-at n (x ∷ xs) e i h = by (eqb x (markOf n)) refl e (λ q j l. agree-at (suc n) xs q j l) i h
-  where
-    by : (t : Bool) → eqb x (markOf n) ≡ t → cond t (agree (suc n) xs) false ≡ true
-        → (agree (suc n) xs ≡ true → (j : ℕ) → j < length xs → getD xs j 0 ≡ markOf (suc n + j))
-        → (i : ℕ) → i < length (x ∷ xs) → getD (x ∷ xs) i 0 ≡ markOf (n + i)
-    by true p q f zero l = let z : n ≡ n + 0 = omega arith in eqb-true x (markOf n) p ∙ ap markOf z
-    by true p q f (suc j) l = let z : suc n + j ≡ n + suc j = omega arith in f q j (omega arith) ∙ ap markOf z
-    by false p q f j l = absurd (let z : _≡_ {A = ℕ} 0 1 = cc in omega arith)
+pub slots : Slots short
+slots = record {
+  long = refl;
+  listed = short-listed;
+  unlisted = λ b z e.
+      let n : length (take 32 short) ≡ 32 = refl in
+      let l : b % 32 < 32 = omega arith in
+      is-special _ _ (every-at special 0 (take 32 short) short-special (b % 32) (omega (arith, n, l)))
+      (ap behind (getD-take 32 short (b % 32) 0 l ∙ e) ∙ z);
+}
 
-all-agree : agree 0 allMarks ≡ true
-unfolding behind agree
-all-agree = refl
-
-pub mark-in : (b : ℕ) → b < 256 → getD allMarks b 0 ≡ markOf b
-mark-in b h = let z : 0 + b ≡ b = omega arith in agree-at 0 allMarks all-agree b h ∙ ap markOf z
-
-pub listed-count : (b : ℕ) → cond (eqb (markOf b) 0x2E) 1 2 ≡ length (becomes false b)
-unfolding secondOf
-listed-count b = elim (ℕ-discrete (behind b) 0) [
-  | yes e ↦ simp (eq-eqb (behind b) 0 e, becomes-itself false b e)
-  | no n ↦ simp (ne-eqb (behind b) 0 n, ne-eqb (behind b) 0x2E (not-point b), becomes-two false b n)
-]
-
-pub listed-leads : (d : List ℕ) (at b : ℕ) → at + 2 ≤ length d
-    → Leads 1 (becomes false b) d at (set (set d at (cond (eqb (markOf b) 0x2E) b 0x5C)) (at + 1) (markOf b))
-unfolding secondOf
-listed-leads d at b l = elim (ℕ-discrete (behind b) 0) [
-  | yes e ↦
-      simp (eq-eqb (behind b) 0 e, becomes-itself false b e) (leads-over (b ∷ []) (0x2E ∷ []) d at (patch-two d at b 0x2E l) l)
-  | no n ↦
-      simp (ne-eqb (behind b) 0 n, ne-eqb (behind b) 0x2E (not-point b), becomes-two false b n)
-      (leads-put 1 (0x5C ∷ behind b ∷ []) d at (patch-two d at 0x5C (behind b) l))
-]
+pub marks-of : (l : List ℕ) → length l ≡ 256 → every (tells markOf) 0 l ≡ true → Marks l
+marks-of l n e = record { long = n; right = λ b h. told-at markOf l e b (omega (arith, n)) }
 
 -- ---- what bytes become, in parts
 
@@ -293,76 +258,75 @@ body-clean m (b ∷ bs) e = by (eqb (secondOf m b) 0) refl e (λ q. body-clean m
     by true p q f = rw (becomes-itself m b (eqb-true (secondOf m b) 0 p), f (omega arith))
     by false p q f = absurd (omega arith)
 
--- ---- what is left to write
+-- ---- what has been written
 
-pub rest-none : (m : Bool) (bs : List ℕ) (i : ℕ) → i ≡ length bs → rest m bs i ≡ quote ∷ []
-unfolding body
-rest-none m bs i e = rw (e, drop-length)
+module _ (m : Bool) (bs : List ℕ) where
+  pub leading-none : (d : List ℕ) (at : ℕ) → Leading m (take 0 bs) d at at d
+  unfolding body
+  leading-none d at = record { place = omega arith; leads = record { then = λ x h r. ap (λ (k : ℕ). patch d k x) (add-zero at) } }
 
-pub rest-all : (m : Bool) (bs : List ℕ) → quoted m bs ≡ quote ∷ rest m bs 0
+  -- a part, and the next
+  pub leading-on : (i j : ℕ) {d : List ℕ} {at r r′ : ℕ} {d′ d″ : List ℕ} → i ≤ j → Leading m (take i bs) d at r d′ → length d′ ≡ length d
+      → Leading m (take (j - i) (drop i bs)) d′ r r′ d″ → Leading m (take j bs) d at r′ d″
+  leading-on i j {d} {at} {r} {r′} {d′} {d″} h p e q =
+      let sum : i + (j - i) ≡ j = omega arith in
+      let two = body m (take i bs) ++ body m (take (j - i) (drop i bs)) in
+      let same : body m (take j bs) ≡ two =
+      ap (λ (k : ℕ). body m (take k bs)) (sym sum) ∙ ap (body m) (take-add i (j - i) bs) ∙ body-append m (take i bs) (take (j - i) (drop i bs)) in
+      let n = length-append (body m (take i bs)) (body m (take (j - i) (drop i bs))) in
+      record {
+        place = omega (arith, p .place, q .place, ap length same, n);
+        leads = rw same (leads-join (p .leads) (rw (p .place) at (q .leads)) e);
+      }
+
+  -- a byte, and the next
+  pub leading-byte : (i : ℕ) {d : List ℕ} {at r r′ : ℕ} {d′ d″ : List ℕ} → i < length bs → Leading m (take i bs) d at r d′ → length d′ ≡ length d
+      → Leading m (getD bs i 0 ∷ []) d′ r r′ d″ → Leading m (take (i + 1) bs) d at r′ d″
+  leading-byte i {d} {at} {r} {r′} {d′} {d″} h p e q =
+      let one : take (i + 1 - i) (drop i bs) ≡ getD bs i 0 ∷ [] = (let k : i + 1 - i ≡ 1 = omega arith in rw k (ap (take 1) (drop-cons bs i 0 h))) in
+      leading-on i (i + 1) (omega arith) p e (rw one q)
+
+  pub leading-all : (i : ℕ) {d : List ℕ} {at r : ℕ} {d′ : List ℕ} → length bs ≤ i → Leading m (take i bs) d at r d′ → Leading m bs d at r d′
+  leading-all i h p = let e : take i bs ≡ bs = take-all i bs h in rw (← e) p
+
+  -- what i bytes and the rest become
+  pub room-rest : (i : ℕ) → length (body m bs) ≡ length (body m (take i bs)) + length (body m (drop i bs))
+  room-rest i =
+      ap (λ (x : List ℕ). length (body m x)) (sym (take-append-drop i bs)) ∙ ap length (body-append m (take i bs) (drop i bs))
+      ∙ length-append (body m (take i bs)) (body m (drop i bs))
+
+  -- k bytes from i on are some of the rest
+  pub room-part : (i k : ℕ) → length (body m (take k (drop i bs))) ≤ length (body m (drop i bs))
+  room-part i k =
+      let n : length (body m (drop i bs)) ≡ length (body m (take k (drop i bs))) + length (body m (drop k (drop i bs))) =
+      ap (λ (x : List ℕ). length (body m x)) (sym (take-append-drop k (drop i bs)))
+      ∙ ap length (body-append m (take k (drop i bs)) (drop k (drop i bs)))
+      ∙ length-append (body m (take k (drop i bs))) (body m (drop k (drop i bs))) in
+      omega (arith, n)
+
+-- bytes that stand for themselves are copied
+pub leading-copy : (m : Bool) (bs d : List ℕ) (at r : ℕ) {d′ : List ℕ} → mores m bs ≡ 0 → r ≡ at + length bs → d′ ≡ patch d at bs → Leading m bs d at r d′
+leading-copy m bs d at r z k e =
+    let same = body-clean m bs z in
+    record { place = rw same k; leads = rw same (leads-put bs d at e) }
+
+-- ---- the quotes around them
+
+pub quoted-size : (m : Bool) (bs : List ℕ) → length (quoted m bs) ≡ length (body m bs) + 2
 unfolding quoted
-rest-all m bs = refl
+quoted-size m bs = omega (arith, length-append (body m bs) (quote ∷ []))
 
-pub rest-long : (m : Bool) (bs : List ℕ) (i : ℕ) → suc (length bs - i) ≤ length (rest m bs i)
-rest-long m bs i = omega (arith, length-append (body m (drop i bs)) (quote ∷ []), body-length m (drop i bs), length-drop i bs)
-
-module _ (m : Bool) (bs : List ℕ) (i j : ℕ) (h : i ≤ j) where
-  abbrev piece : List ℕ
-  piece = take (j - i) (drop i bs)
-
-  pub rest-piece : rest m bs i ≡ body m piece ++ rest m bs j
-  rest-piece =
-      let k : i + (j - i) ≡ j = omega arith in
-      let e : drop i bs ≡ piece ++ drop j bs =
-      sym (take-append-drop (j - i) (drop i bs)) ∙ ap (λ (x : List ℕ). piece ++ x) (drop-drop (j - i) i bs ∙ ap (λ (x : ℕ). drop x bs) k) in
-      ap (λ (x : List ℕ). body m x ++ (quote ∷ [])) e
-      ∙ ap (λ (x : List ℕ). x ++ (quote ∷ [])) (body-append m piece (drop j bs)) ∙ append-assoc (body m piece) (body m (drop j bs)) (quote ∷ [])
-
-  -- as many bytes more as the rest from j on
-  pub rest-lengths : length (rest m bs i) ≡ length (body m piece) + length (rest m bs j)
-  rest-lengths = ap length rest-piece ∙ length-append (body m piece) (rest m bs j)
-
--- ---- turns
-
--- there is room for the bytes up to j and something behind them
-pub room-bytes : (m : Bool) (bs : List ℕ) (at i j room : ℕ) → i ≤ j → at + length (rest m bs i) ≤ room
-    → at + length (body m (take (j - i) (drop i bs))) + 1 ≤ room
-room-bytes m bs at i j room h l = omega (arith, rest-lengths m bs i j h, rest-long m bs j)
-
-module _ (m : Bool) (bs d : List ℕ) (at i : ℕ) {d′ : List ℕ} where
-  -- the bytes up to j, one by one
-  pub came-bytes : (j r : ℕ) → i < j → j ≤ length bs → r ≡ at + length (body m (take (j - i) (drop i bs)))
-      → Leads 1 (body m (take (j - i) (drop i bs))) d at d′ → Came m bs d at i (record { next = r; from = j }) d′
-  came-bytes j r h l e p = record { on = h; within = l; place = e; leads = leads-least (omega arith) p }
-
-  -- w bytes that stand for themselves are copied
-  pub came-copy : (w : ℕ) → 0 < w → i + w ≤ length bs → mores m (take w (drop i bs)) ≡ 0
-      → d′ ≡ patch d at (take w (drop i bs)) → Came m bs d at i (record { next = at + w; from = i + w }) d′
-  came-copy w h l z e =
-      let q = take w (drop i bs) in
-      let n : length q ≡ w = length-take-le w (drop i bs) (omega (arith, length-drop i bs)) in
-      let wide : i + w - i ≡ w = omega arith in
-      let is : body m (take (i + w - i) (drop i bs)) ≡ q = ap (λ (x : ℕ). body m (take x (drop i bs))) wide ∙ body-clean m q z in
-      record { on = omega arith; within = l; place = omega (arith, n, ap length is); leads = rw is (leads-put _ q d at e) }
-
--- a turn is made: the rest behind it gives the same buffer
-pub came-turn : (m : Bool) (bs d : List ℕ) (at i : ℕ) {t : Step} {d′ : List ℕ} → at + length (rest m bs i) ≤ length d → Came m bs d at i t d′
-    → (t .next + length (rest m bs (t .from)) ≡ at + length (rest m bs i)) × (patch d′ (t .next) (rest m bs (t .from)) ≡ patch d at (rest m bs i))
-came-turn m bs d at i {t} {d′} l c =
-    let h : i ≤ t .from = omega (arith, c .on) in
-    let n = rest-lengths m bs i (t .from) h in (
-      omega (arith, c .place, n),
-      ap (λ (k : ℕ). patch d′ k (rest m bs (t .from))) (c .place)
-          ∙ c .leads .then (rest m bs (t .from)) (rest-long m bs (t .from)) (omega (arith, n))
-          ∙ ap (patch d at) (sym (rest-piece m bs i (t .from) h)),
+pub leading-closed : (m : Bool) (bs d : List ℕ) (at r : ℕ) {d′ : List ℕ} → at + length (quoted m bs) ≤ length d → length d′ ≡ length (set d at quote)
+    → Leading m bs (set d at quote) (at + 1) r d′
+    → (r + 1 ≡ at + length (quoted m bs)) × (set d′ r quote ≡ patch d at (quoted m bs))
+unfolding quoted
+leading-closed m bs d at r {d′} l k p =
+    let n = length-append (body m bs) (quote ∷ []) in
+    let q = quoted-size m bs in
+    let s = length-set d at quote in (
+      omega (arith, q, p .place),
+      patch-one d′ r quote (omega (arith, q, k, s, p .place))
+          ∙ ap (λ (j : ℕ). patch d′ j (quote ∷ [])) (p .place)
+          ∙ p .leads .then (quote ∷ []) (omega arith) (omega (arith, q, s))
+          ∙ patch-cons d at quote (body m bs ++ (quote ∷ [])) (omega (arith, q, n)),
     )
-
--- the bytes one by one, and the closing quote is still to be written
-pub bodied : (m : Bool) (bs d : List ℕ) (at r : ℕ) {d′ : List ℕ} → at + length (rest m bs 0) ≤ length d → r ≡ at + length (body m bs)
-    → Leads 1 (body m bs) d at d′ → Bodied m bs d at r d′
-bodied m bs d at r {d′} l e p =
-    let n : length (rest m bs 0) ≡ length (body m bs) + 1 = length-append (body m bs) (quote ∷ []) in
-    record {
-      place = omega (arith, n);
-      ends = ap (λ (k : ℕ). patch d′ k (quote ∷ [])) e ∙ p .then (quote ∷ []) (omega arith) (omega (arith, n));
-    }

@@ -8,13 +8,14 @@ use wire::Needed;
 use wire::Put;
 use wire::inner;
 ghost use mathlib.Core.Path.{_≡_};
-ghost use Prim.Native.Nat.{_+_, _≤_, _<_};
+ghost use Prim.Native.Nat.{_+_, _%_, _≤_, _<_};
+ghost use mathlib.Core.List.{[], _∷_};
 ghost use lib.ListN.{length, take, drop};
 ghost use lib.Dec.{leb, eqb};
 ghost use mathlib.Core.Bool.{true, false, cond};
-ghost use Rattle.escape.specs.Quote.{quoted, becomes, body};
+ghost use Rattle.escape.specs.Quote.{quoted, body};
 ghost use Rattle.escape.specs.QuoteLaws.{moreOf, mores};
-ghost use Rattle.escape.specs.Turns.{markList, slotOf, allMarks, rest, Leads, Came, Bodied};
+ghost use Rattle.escape.specs.Turns.{Slots, Marks, Leading, Came};
 ghost use Rattle.wire.specs.Room.{Wrote, patch, lengthOf, neededSaid};
 
 // What stands behind the backslash, for each byte, and a point where it stands for itself.
@@ -100,9 +101,9 @@ pub fn escaped_len(input: &[u8], no_backslash_escape: bool) -> Needed
     Needed::Bytes(input.len() + more + 2)
 }
 
-// Where a byte stands in the list of marks, if it is there: no two of those that get a backslash share a place.
+// Where a byte stands in the short list of marks, if it is there: no two of those that get a backslash share a slot.
 fn slot(b: u8) -> usize
-    ensures { λ r. ⌜ r ≡ slotOf b ⌝ }
+    ensures { λ r. ⌜ r ≡ b % 32 ⌝ }
 {
     b as usize % 32
 }
@@ -123,8 +124,8 @@ fn count_of(b: u8, key: u8) -> usize
 // What a byte becomes with a backslash or without, and the place behind it. Both bytes are written always: branches would be guessed
 // wrong time and again. If it is one byte only, the second place is written again by what follows, at least the closing quote.
 fn put_escape(dst: &mut [u8], at: usize, b: u8, marks: &[u8]) -> usize
-    requires { ⌜ (at + 2 ≤ length (now dst)) × (now marks ≡ markList) ⌝ }
-    ensures { λ r. ⌜ (r ≡ at + length (becomes false b)) × Leads 1 (becomes false b) (now (dst .entry)) at (now (dst .exit)) ⌝ }
+    requires { ⌜ (at + 2 ≤ length (now dst)) × Slots (now marks) ⌝ }
+    ensures { λ r. ⌜ Leading false (b ∷ []) (now (dst .entry)) at r (now (dst .exit)) ⌝ }
 {
     let i = slot(b);
     let key = marks[i];
@@ -136,9 +137,8 @@ fn put_escape(dst: &mut [u8], at: usize, b: u8, marks: &[u8]) -> usize
 
 // The same of the bytes of src, one by one, where something has to follow.
 fn put_escapes(dst: &mut [u8], at: usize, src: &[u8], marks: &[u8]) -> usize
-    requires { ⌜ (at + length (body false (now src)) + 1 ≤ length (now dst)) × (now marks ≡ markList) ⌝ }
-    ensures { λ r. ⌜ (r ≡ at + length (body false (now (src .entry))))
-        × Leads 1 (body false (now (src .entry))) (now (dst .entry)) at (now (dst .exit)) ⌝ }
+    requires { ⌜ (at + length (body false (now src)) + 1 ≤ length (now dst)) × Slots (now marks) ⌝ }
+    ensures { λ r. ⌜ Leading false (now (src .entry)) (now (dst .entry)) at r (now (dst .exit)) ⌝ }
 {
     let mut next = at;
     let mut i = 0;
@@ -164,8 +164,8 @@ fn count_by(mark: u8) -> usize
 }
 
 fn put_listed(dst: &mut [u8], at: usize, b: u8, all: &[u8]) -> usize
-    requires { ⌜ (at + 2 ≤ length (now dst)) × (now all ≡ allMarks) ⌝ }
-    ensures { λ r. ⌜ (r ≡ at + length (becomes false b)) × Leads 1 (becomes false b) (now (dst .entry)) at (now (dst .exit)) ⌝ }
+    requires { ⌜ (at + 2 ≤ length (now dst)) × Marks (now all) ⌝ }
+    ensures { λ r. ⌜ Leading false (b ∷ []) (now (dst .entry)) at r (now (dst .exit)) ⌝ }
 {
     let mark = all[b as usize];
     dst[at] = lead_by(b, mark);
@@ -174,9 +174,8 @@ fn put_listed(dst: &mut [u8], at: usize, b: u8, all: &[u8]) -> usize
 }
 
 fn put_long(dst: &mut [u8], at: usize, src: &[u8], all: &[u8]) -> usize
-    requires { ⌜ (at + length (body false (now src)) + 1 ≤ length (now dst)) × (now all ≡ allMarks) ⌝ }
-    ensures { λ r. ⌜ (r ≡ at + length (body false (now (src .entry))))
-        × Leads 1 (body false (now (src .entry))) (now (dst .entry)) at (now (dst .exit)) ⌝ }
+    requires { ⌜ (at + length (body false (now src)) + 1 ≤ length (now dst)) × Marks (now all) ⌝ }
+    ensures { λ r. ⌜ Leading false (now (src .entry)) (now (dst .entry)) at r (now (dst .exit)) ⌝ }
 {
     let mut next = at;
     let mut i = 0;
@@ -190,7 +189,7 @@ fn put_long(dst: &mut [u8], at: usize, src: &[u8], all: &[u8]) -> usize
 // What a byte becomes where only the quote is doubled, and the place behind it.
 fn put_double(dst: &mut [u8], at: usize, b: u8) -> usize
     requires { ⌜ at + 2 ≤ length (now dst) ⌝ }
-    ensures { λ r. ⌜ (r ≡ at + length (becomes true b)) × Leads 1 (becomes true b) (now (dst .entry)) at (now (dst .exit)) ⌝ }
+    ensures { λ r. ⌜ Leading true (b ∷ []) (now (dst .entry)) at r (now (dst .exit)) ⌝ }
 {
     dst[at] = b;
     if b == 0x27 {
@@ -202,8 +201,7 @@ fn put_double(dst: &mut [u8], at: usize, b: u8) -> usize
 
 fn put_doubles(dst: &mut [u8], at: usize, src: &[u8]) -> usize
     requires { ⌜ at + length (body true (now src)) + 1 ≤ length (now dst) ⌝ }
-    ensures { λ r. ⌜ (r ≡ at + length (body true (now (src .entry))))
-        × Leads 1 (body true (now (src .entry))) (now (dst .entry)) at (now (dst .exit)) ⌝ }
+    ensures { λ r. ⌜ Leading true (now (src .entry)) (now (dst .entry)) at r (now (dst .exit)) ⌝ }
 {
     let mut next = at;
     let mut i = 0;
@@ -240,8 +238,7 @@ struct Step {
 // A long input without a quote is copied: to look for one costs little beside what it may save.
 fn put_doubled(dst: &mut [u8], at: usize, input: &[u8]) -> usize
     requires { ⌜ at + length (body true (now input)) + 1 ≤ length (now dst) ⌝ }
-    ensures { λ r. ⌜ (r ≡ at + length (body true (now (input .entry))))
-        × Leads 1 (body true (now (input .entry))) (now (dst .entry)) at (now (dst .exit)) ⌝ }
+    ensures { λ r. ⌜ Leading true (now (input .entry)) (now (dst .entry)) at r (now (dst .exit)) ⌝ }
 {
     if 64 <= input.len() {
         if mores(input, true) == 0 {
@@ -255,7 +252,7 @@ fn put_doubled(dst: &mut [u8], at: usize, input: &[u8]) -> usize
 // In backslash mode long inputs are tested 16 bytes at a time, and these copied where all of them stand for themselves. Else 128 go one by
 // one before it is tried again, so that an input full of quotes loses little.
 fn turn(dst: &mut [u8], at: usize, input: &[u8], i: usize, all: &[u8]) -> Step
-    requires { ⌜ (i < length (now input)) × (at + length (rest false (now input) i) ≤ length (now dst)) × (now all ≡ allMarks) ⌝ }
+    requires { ⌜ (i < length (now input)) × (at + length (body false (drop i (now input))) + 1 ≤ length (now dst)) × Marks (now all) ⌝ }
     ensures { λ r. ⌜ Came false (now (input .entry)) (now (dst .entry)) at i r (now (dst .exit)) ⌝ }
 {
     let n = input.len();
@@ -276,8 +273,8 @@ fn turn(dst: &mut [u8], at: usize, input: &[u8], i: usize, all: &[u8]) -> Step
 }
 
 fn put_turns(dst: &mut [u8], at: usize, input: &[u8], all: &[u8]) -> usize
-    requires { ⌜ (at + length (rest false (now input) 0) ≤ length (now dst)) × (now all ≡ allMarks) ⌝ }
-    ensures { λ r. ⌜ Bodied false (now (input .entry)) (now (dst .entry)) at r (now (dst .exit)) ⌝ }
+    requires { ⌜ (at + length (body false (now input)) + 1 ≤ length (now dst)) × Marks (now all) ⌝ }
+    ensures { λ r. ⌜ Leading false (now (input .entry)) (now (dst .entry)) at r (now (dst .exit)) ⌝ }
 {
     let mut next = at;
     let mut i = 0;
@@ -291,8 +288,8 @@ fn put_turns(dst: &mut [u8], at: usize, input: &[u8], all: &[u8]) -> usize
 
 // What the bytes become, and the place where the closing quote belongs.
 fn put_body(dst: &mut [u8], at: usize, input: &[u8], no_backslash_escape: bool) -> usize
-    requires { ⌜ at + length (rest «no_backslash_escape» (now input) 0) ≤ length (now dst) ⌝ }
-    ensures { λ r. ⌜ Bodied «no_backslash_escape» (now (input .entry)) (now (dst .entry)) at r (now (dst .exit)) ⌝ }
+    requires { ⌜ at + length (body «no_backslash_escape» (now input)) + 1 ≤ length (now dst) ⌝ }
+    ensures { λ r. ⌜ Leading «no_backslash_escape» (now (input .entry)) (now (dst .entry)) at r (now (dst .exit)) ⌝ }
 {
     if no_backslash_escape {
         return put_doubled(dst, at, input);
@@ -306,8 +303,7 @@ fn put_body(dst: &mut [u8], at: usize, input: &[u8], no_backslash_escape: bool) 
 // Each makes its list once, and where it is needed alone.
 fn put_short(dst: &mut [u8], at: usize, input: &[u8]) -> usize
     requires { ⌜ at + length (body false (now input)) + 1 ≤ length (now dst) ⌝ }
-    ensures { λ r. ⌜ (r ≡ at + length (body false (now (input .entry))))
-        × Leads 1 (body false (now (input .entry))) (now (dst .entry)) at (now (dst .exit)) ⌝ }
+    ensures { λ r. ⌜ Leading false (now (input .entry)) (now (dst .entry)) at r (now (dst .exit)) ⌝ }
 {
     // The bytes that get a backslash, each at its slot, with quotes at the others; and what then stands behind it.
     put_escapes(
@@ -319,8 +315,8 @@ fn put_short(dst: &mut [u8], at: usize, input: &[u8]) -> usize
 }
 
 fn put_all(dst: &mut [u8], at: usize, input: &[u8]) -> usize
-    requires { ⌜ at + length (rest false (now input) 0) ≤ length (now dst) ⌝ }
-    ensures { λ r. ⌜ Bodied false (now (input .entry)) (now (dst .entry)) at r (now (dst .exit)) ⌝ }
+    requires { ⌜ at + length (body false (now input)) + 1 ≤ length (now dst) ⌝ }
+    ensures { λ r. ⌜ Leading false (now (input .entry)) (now (dst .entry)) at r (now (dst .exit)) ⌝ }
 {
     let all = ALL;
     put_turns(dst, at, input, &all)

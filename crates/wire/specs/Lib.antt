@@ -5,3 +5,4 @@ pub mod RoomLaws
 pub mod LenEnc
 pub mod LenEncLaws
 pub mod Fields
+pub mod TableLaws

@@ -1,10 +1,10 @@
-use Rattle.escape.proofs.PutLaws.{double-two, double-one, leads-put}
+use Rattle.escape.proofs.PutLaws.{double-two, double-one, leads-put, leading-one}
 use Rattle.wire.specs.RoomLaws.{patch-one, patch-two}
-use lib.ListN.{length, length-set}
+use lib.ListN.{length-set}
+use mathlib.Core.Bool.{true}
 use mathlib.Core.List.{[], _∷_}
-use Prim.Native.Nat.{ℕ, _+_}
+use mathlib.Core.Path.{refl}
 use native.Mathlib.Omega.{arith}
-use mathlib.Core.Path.{_≡_, refl, sym, ap, _∙_}
 use borrow.Author.Needs.{needs}
 use Rattle.escape.proofs.put_double.Statement.{statement}
 use Rattle.escape.proofs.put_double.Tie as tie
@@ -29,10 +29,8 @@ same-length c = search needs
 returns : tie.Need-returns
 returns c =
     let a = c .before .args in
-    let two = double-two (a .b) (c .if1 .taken) in (
-      ap (λ (n : ℕ). a .at + n) (sym (ap length two)),
-      rw two (leads-put 1 (a .b ∷ a .b ∷ []) (a .dst .now) (a .at) (patch-two (a .dst .now) (a .at) (a .b) (a .b) (c .before .pre))),
-    )
+    leading-one true (a .b) (double-two (a .b) (c .if1 .taken)) refl
+    (leads-put (a .b ∷ a .b ∷ []) (a .dst .now) (a .at) (patch-two (a .dst .now) (a .at) (a .b) (a .b) (c .before .pre)))
 
 add-result-2 : tie.Need-add-result-2
 add-result-2 c = search needs
@@ -43,10 +41,8 @@ same-length-2 c = search needs
 returns-2 : tie.Need-returns-2
 returns-2 c =
     let a = c .before .args in
-    let one = double-one (a .b) (c .if1 .left) in (
-      ap (λ (n : ℕ). a .at + n) (sym (ap length one)),
-      rw one (leads-put 1 (a .b ∷ []) (a .dst .now) (a .at) (patch-one (a .dst .now) (a .at) (a .b) (omega arith))),
-    )
+    leading-one true (a .b) (double-one (a .b) (c .if1 .left)) refl
+    (leads-put (a .b ∷ []) (a .dst .now) (a .at) (patch-one (a .dst .now) (a .at) (a .b) (omega arith)))
 
 pub put-double-spec : {M : Type 1} → statement M
 put-double-spec =

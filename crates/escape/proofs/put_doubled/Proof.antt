@@ -1,9 +1,7 @@
-use Rattle.escape.proofs.PutLaws.{body-clean, leads-put}
+use Rattle.escape.proofs.PutLaws.{leading-copy}
 use Rattle.escape.specs.QuoteLaws.{body-length}
 use mathlib.Core.Bool.{true}
-use lib.ListN.{length}
-use mathlib.Core.Path.{sym, ap, _∙_}
-use Prim.Native.Nat.{ℕ, _+_}
+use mathlib.Core.Path.{refl, sym, _∙_}
 use native.Mathlib.Omega.{arith}
 use borrow.Author.Needs.{needs}
 use Rattle.escape.proofs.put_doubled.Statement.{statement}
@@ -33,11 +31,9 @@ same-length c = search needs
 returns : tie.Need-returns
 returns c =
     let a = c .before .before .before .before .before .before .before .before .before .args in
-    let clean = body-clean true (a .input .now)
-    (sym (c .before .before .before .before .before .mores .ensures) ∙ c .before .before .before .before .if2 .taken) in (
-      ap (λ (n : ℕ). a .at + n) (sym (ap length clean)),
-      rw clean (leads-put 1 (a .input .now) (a .dst .now) (a .at) (c .before .before .copy .ensures)),
-    )
+    leading-copy true (a .input .now) (a .dst .now) (a .at) _
+    (sym (c .before .before .before .before .before .mores .ensures) ∙ c .before .before .before .before .if2 .taken) refl
+    (c .before .before .copy .ensures)
 
 put-doubles-requires : tie.Need-put-doubles-requires
 put-doubles-requires c κs = search needs

@@ -1,12 +1,8 @@
-use Rattle.escape.proofs.PutLaws.{escape-count, escape-leads}
-use Rattle.escape.specs.Turns.{markList}
-use lib.ListN.{length, getD, length-set}
-use lib.Dec.{eqb}
-use mathlib.Core.Bool.{cond}
-use mathlib.Core.List.{List}
+use Rattle.escape.proofs.PutLaws.{escape-leading}
+use lib.ListN.{length-set}
+use mathlib.Core.Path.{ap}
 use Prim.Native.Nat.{ℕ, _+_}
 use native.Mathlib.Omega.{arith}
-use mathlib.Core.Path.{_≡_, refl, sym, ap, _∙_}
 use borrow.Author.Needs.{needs}
 use Rattle.escape.proofs.put_escape.Statement.{statement}
 use Rattle.escape.proofs.put_escape.Tie as tie
@@ -16,20 +12,17 @@ use Rattle.escape.proofs.count_of.Reads as count-of-reads
 use Rattle.escape.proofs.lead_of.Reads as lead-of-reads
 use Rattle.escape.proofs.slot.Reads as slot-reads
 
-whole : length markList ≡ 64
-whole = refl
-
 slot-requires : tie.Need-slot-requires
 slot-requires c κs = search needs
 
 shared-slice-read-key : tie.Need-shared-slice-read-key
-shared-slice-read-key c = omega (arith, whole, ap length (c .before .before .before .before .pre .1), c .before .slot .ensures)
+shared-slice-read-key c = omega (arith, c .before .before .before .before .pre .1 .long, c .before .slot .ensures)
 
 add-mark : tie.Need-add-mark
 add-mark c = search needs
 
 shared-slice-read-mark : tie.Need-shared-slice-read-mark
-shared-slice-read-mark c = omega (arith, whole, ap length (c .before .before .before .before .before .pre .1), c .before .before .slot .ensures)
+shared-slice-read-mark c = omega (arith, c .before .before .before .before .before .pre .1 .long, c .before .before .slot .ensures)
 
 lead-of-requires : tie.Need-lead-of-requires
 lead-of-requires c κs = search needs
@@ -55,14 +48,9 @@ same-length c = search needs
 returns : tie.Need-returns
 returns c =
     let a = c .before .before .before .before .before .before .before in
-    let b = a .args .b in
-    let at-slot = c .before .before .before .before .slot .ensures in
-    let key = ap (λ (l : List ℕ). getD l (c .before .before .before .before .slot .result) 0) (a .pre .1) ∙ ap (λ (i : ℕ). getD markList i 0) at-slot in
-    let second = ap (λ (l : List ℕ). getD l (c .before .before .before .before .slot .result + 32) 0) (a .pre .1) ∙ ap
-    (λ (i : ℕ). getD markList (i + 32) 0) at-slot in (
-      ap (λ (n : ℕ). a .args .at + n) (c .count-of .ensures .0 ∙ ap (λ (k : ℕ). cond (eqb k b) 2 1) key ∙ escape-count b),
-      rw (c .before .lead-of .ensures, key, second) (escape-leads (a .args .dst .now) (a .args .at) b (a .pre .0)),
-    )
+    let here = c .before .before .before .before .slot .ensures in
+    let count = ap (λ (n : ℕ). a .args .at + n) (rw here at (c .count-of .ensures .0)) in
+    rw (c .before .lead-of .ensures, here) (escape-leading (a .args .marks .now) (a .pre .1) (a .args .dst .now) (a .args .at) (a .args .b) (a .pre .0) count)
 
 pub put-escape-spec : {M : Type 1} → statement M
 put-escape-spec =

@@ -1,10 +1,6 @@
-use Rattle.escape.proofs.PutLaws.{mark-in, listed-count, listed-leads}
-use Rattle.escape.specs.Turns.{allMarks}
-use lib.ListN.{length, getD, length-set}
-use lib.Dec.{eqb}
-use mathlib.Core.Bool.{cond}
-use mathlib.Core.List.{List}
-use mathlib.Core.Path.{_≡_, refl, ap, _∙_}
+use Rattle.escape.proofs.PutLaws.{listed-leading}
+use lib.ListN.{length-set}
+use mathlib.Core.Path.{ap}
 use Prim.Native.Nat.{ℕ, _+_}
 use native.Mathlib.Omega.{arith}
 use borrow.Author.Needs.{needs}
@@ -16,9 +12,7 @@ use Rattle.escape.proofs.count_by.Reads as count-by-reads
 use Rattle.escape.proofs.lead_by.Reads as lead-by-reads
 
 shared-slice-read-mark : tie.Need-shared-slice-read-mark
-shared-slice-read-mark c =
-    let n : length allMarks ≡ 256 = refl in
-    omega (arith, n, ap length (c .before .before .before .pre .1))
+shared-slice-read-mark c = omega (arith, c .before .before .before .pre .1 .long)
 
 lead-by-requires : tie.Need-lead-by-requires
 lead-by-requires c κs = search needs
@@ -44,11 +38,9 @@ same-length c = search needs
 returns : tie.Need-returns
 returns c =
     let a = c .before .before .before .before .before in
-    let b = a .args .b in
-    let mark = ap (λ (l : List ℕ). getD l b 0) (a .pre .1) ∙ mark-in b (omega arith) in (
-      ap (λ (n : ℕ). a .args .at + n) (c .count-by .ensures .0 ∙ ap (λ (k : ℕ). cond (eqb k 0x2E) 1 2) mark ∙ listed-count b),
-      rw (c .before .lead-by .ensures, mark) (listed-leads (a .args .dst .now) (a .args .at) b (a .pre .0)),
-    )
+    let count = ap (λ (n : ℕ). a .args .at + n) (c .count-by .ensures .0) in
+    rw (c .before .lead-by .ensures)
+    (listed-leading (a .args .dst .now) (a .args .at) (a .args .b) _ (a .pre .0) (a .pre .1 .right (a .args .b) (omega arith)) count)
 
 pub put-listed-spec : {M : Type 1} → statement M
 put-listed-spec =

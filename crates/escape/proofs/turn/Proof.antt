@@ -1,8 +1,10 @@
-use Rattle.escape.proofs.PutLaws.{room-bytes, came-bytes, came-copy, rest-long}
+use Rattle.escape.proofs.PutLaws.{room-part, leading-copy}
+use Rattle.escape.specs.QuoteLaws.{body-length}
 use mathlib.Core.Bool.{false}
-use lib.ListN.{length}
-use mathlib.Core.Path.{sym, _∙_}
-use Prim.Native.Nat.{_+_}
+use lib.ListN.{length, take, drop, length-drop}
+use lib.Seq.{length-take-le}
+use mathlib.Core.Path.{_≡_, sym, _∙_}
+use Prim.Native.Nat.{_+_, _-_}
 use native.Mathlib.Omega.{arith}
 use borrow.Author.Needs.{needs}
 use Rattle.escape.proofs.turn.Statement.{statement}
@@ -28,8 +30,11 @@ part-put-long-end c = search needs
 put-long-requires : tie.Need-put-long-requires
 put-long-requires c κs =
     let a = c .before .before .before .before .before .before .args in (
-      room-bytes false (a .input .now) (a .at) (a .i) (length (a .input .now)) (length (a .dst .now)) (omega arith)
-          (c .before .before .before .before .before .before .pre .1),
+      omega (
+        arith,
+        room-part false (a .input .now) (a .i) (length (a .input .now) - a .i),
+        c .before .before .before .before .before .before .pre .1,
+      ),
       c .before .before .before .before .before .before .pre .2,
     )
 
@@ -37,11 +42,7 @@ same-length : tie.Need-same-length
 same-length c = search needs
 
 returns : tie.Need-returns
-returns c =
-    let a = c .before .before .before .before .before .before .before .before .before .args in
-    let did = c .before .before .put-long in
-    came-bytes false (a .input .now) (a .dst .now) (a .at) (a .i) (length (a .input .now)) (did .result)
-    (omega arith) (omega arith) (did .ensures .0) (did .ensures .1)
+returns c = record { on = omega arith; within = omega arith; leading = c .before .before .put-long .ensures }
 
 mores-in-requires : tie.Need-mores-in-requires
 mores-in-requires c κs = search needs
@@ -49,7 +50,8 @@ mores-in-requires c κs = search needs
 copy-sixteen-requires : tie.Need-copy-sixteen-requires
 copy-sixteen-requires c κs =
     let a = c .before .before .before .before .before .before .before .args in
-    (omega arith, omega (arith, rest-long false (a .input .now) (a .i), c .before .before .before .before .before .before .before .pre .1))
+    let long = body-length false (drop (a .i) (a .input .now)) in
+    (omega arith, omega (arith, long, length-drop (a .i) (a .input .now), c .before .before .before .before .before .before .before .pre .1))
 
 add-t22 : tie.Need-add-t22
 add-t22 c = search needs
@@ -63,9 +65,15 @@ same-length-2 c = search needs
 returns-2 : tie.Need-returns-2
 returns-2 c =
     let a = c .before .before .before .before .before .before .before .before .before .before .args in
-    came-copy false (a .input .now) (a .dst .now) (a .at) (a .i) 16 (omega arith) (omega arith)
-    (sym (c .before .before .before .before .before .mores-in .ensures) ∙ c .before .before .before .before .if2 .taken)
-    (c .before .before .copy-sixteen .ensures)
+    let s = take 16 (drop (a .i) (a .input .now)) in
+    let n : length s ≡ 16 = length-take-le 16 (drop (a .i) (a .input .now)) (omega (arith, length-drop (a .i) (a .input .now))) in
+    let wide : a .i + 16 - a .i ≡ 16 = omega arith in
+    let clean = sym (c .before .before .before .before .before .mores-in .ensures) ∙ c .before .before .before .before .if2 .taken in
+    record {
+      on = omega arith;
+      within = omega arith;
+      leading = rw wide (leading-copy false s (a .dst .now) (a .at) _ clean (omega (arith, n)) (c .before .before .copy-sixteen .ensures));
+    }
 
 add-from : tie.Need-add-from
 add-from c = search needs
@@ -82,8 +90,11 @@ part-put-long-end-2 c = search needs
 put-long-requires-2 : tie.Need-put-long-requires-2
 put-long-requires-2 c κs =
     let a = c .before .before .before .before .before .before .before .before .args in (
-      room-bytes false (a .input .now) (a .at) (a .i) (a .i + 128) (length (a .dst .now)) (omega arith)
-          (c .before .before .before .before .before .before .before .before .pre .1),
+      omega (
+        arith,
+        room-part false (a .input .now) (a .i) (a .i + 128 - a .i),
+        c .before .before .before .before .before .before .before .before .pre .1,
+      ),
       c .before .before .before .before .before .before .before .before .pre .2,
     )
 
@@ -91,11 +102,7 @@ same-length-3 : tie.Need-same-length-3
 same-length-3 c = search needs
 
 returns-3 : tie.Need-returns-3
-returns-3 c =
-    let a = c .before .before .before .before .before .before .before .before .before .before .before .args in
-    let did = c .before .before .put-long2 in
-    came-bytes false (a .input .now) (a .dst .now) (a .at) (a .i) (a .i + 128) (did .result)
-    (omega arith) (omega arith) (did .ensures .0) (did .ensures .1)
+returns-3 c = record { on = omega arith; within = omega arith; leading = c .before .before .put-long2 .ensures }
 
 pub turn-spec : {M : Type 1} → statement M
 turn-spec =

@@ -1,5 +1,6 @@
 use Rattle.row.proofs.EndLaws.{values-short, values-read, values-stop}
-use Rattle.row.proofs.StepLaws.{agree, steps-are}
+use Rattle.wire.specs.TableLaws.{every}
+use Rattle.row.proofs.StepLaws.{steps-are}
 use Rattle.value.specs.Kinds.{kindOf}
 use mathlib.Core.Path.{refl}
 use native.Mathlib.Nat.{add-sub-cancel-left}
@@ -41,7 +42,7 @@ slice-aggregate-pass : tie.Need-slice-aggregate-pass
 slice-aggregate-pass c = search needs
 
 pass-requires : tie.Need-pass-requires
-unfolding agree kindOf
+unfolding every kindOf
 pass-requires c κs = (search needs, search needs, search needs, refl, steps-are _ refl refl, omega arith, search needs)
 
 enum-known-used : tie.Need-enum-known-used
@@ -51,7 +52,7 @@ slice-aggregate-pass-2 : tie.Need-slice-aggregate-pass-2
 slice-aggregate-pass-2 c = search needs
 
 pass-requires-2 : tie.Need-pass-requires-2
-unfolding agree kindOf
+unfolding every kindOf
 pass-requires-2 c κs = (search needs, search needs, search needs, refl, steps-are _ refl refl, omega arith, search needs)
 
 count-nulls-requires : tie.Need-count-nulls-requires
