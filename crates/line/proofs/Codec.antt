@@ -55,7 +55,7 @@ module _ (f : CodecDecoder) (meets : CodecDecodes f) (staging : PacketCodec → 
 
 given : {m k l : ℕ} {b : List ℕ} {habit : Habit PacketCodec} {ps : List (List ℕ)} {a : List ℕ} → Given PacketCodec m k l b habit ps a
     → Given PlainPacketCodec m k l b (record { acts = λ st. st; lends = habit .lends }) ps a
-given G = record { start = G .start; room = G .room; lent = G .lent; acts = λ st. refl; fit = G .fit; real = G .real }
+given G = record { sent = G .sent; room = G .room; lent = G .lent; acts = λ st. refl }
 
 pub codec-line : (f : CodecDecoder) → CodecDecodes f → (staging : PacketCodec → (u b : List ℕ) → List ℕ) → Line largest PacketCodec (codecEnd f staging)
 codec-line f meets staging =

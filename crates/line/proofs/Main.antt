@@ -136,12 +136,12 @@ module _ (m : ℕ) (pos : 0 < m) (fits : m ≤ largest) (k l : ℕ) (b : List �
 
   pub all-in-place : InPlace a → Wholly (arrived W a)
   all-in-place h =
-      let hn : length a ≤ length W = reach (length a) a (length W) (omega arith) h (G .real) in
+      let hn : length a ≤ length W = reach (length a) a (length W) (omega arith) h (G .sent .real) in
       let e : arrived W a ≡ flatten (take (length a) W) ++ [] =
       ap (arrived W) (sym (take-length a)) ∙ arrived-in-place W (length a) a (omega arith) hn h ∙ sym (append-nil (flatten (take (length a) W))) in
       rw e
       (wholly-by (flatten (take (length a) W) ++ []) (begun m ps (length a))
-      (stream m habit pos fits l (G .acts) (G .lent) k ps (length a) 0 [] b (G .start) (G .fit) (G .room) hn))
+      (stream m habit pos fits l (G .acts) (G .lent) k ps (length a) 0 [] b (G .sent .start) (G .sent .fit) (G .room) hn))
 
   served-by : (cs : List (List ℕ)) (u : List ℕ) → flatten cs ≡ u → Wholly u
       → Served (serve r habit 0 (idle l k) [] b cs) (map handed (complete m ps (length a))) ((k + length a) % 256)
@@ -187,7 +187,7 @@ module _ (m : ℕ) (pos : 0 < m) (fits : m ≤ largest) (k l : ℕ) (b : List �
     rest = take (t - length front) (arrived W (drop (suc i) a))
 
     hi : i ≤ length W
-    hi = reach i a (length W) (omega (arith, D .arrives)) (D .before) (G .real)
+    hi = reach i a (length W) (omega (arith, D .arrives)) (D .before) (G .sent .real)
 
     front-is : front ≡ flatten (take i W) ++ w
     unfolding arrived
@@ -211,20 +211,20 @@ module _ (m : ℕ) (pos : 0 < m) (fits : m ≤ largest) (k l : ℕ) (b : List �
         rw len
         (shut-by (map handed (complete m ps i)) ((k + i) % 256) (begun m ps i) num p rest cs (flatten (take i W) ++ (chunk num p ++ rest))
         (e ∙ bytes ∙ ap (λ (z : List ℕ). flatten (take i W) ++ (z ++ rest)) q)
-        (stream m habit pos fits l (G .acts) (G .lent) k ps i 0 (chunk num p ++ rest) b (G .start) (G .fit) (G .room) hi)
+        (stream m habit pos fits l (G .acts) (G .lent) k ps i 0 (chunk num p ++ rest) b (G .sent .start) (G .sent .fit) (G .room) hi)
         hp (far k i (getD a i 0) (D .off) (D .late) (D .early)))
 
     misplaced : (cs : List (List ℕ)) → flatten cs ≡ take t (arrived W a)
         → Refused (serve r habit 0 (idle l k) [] b cs) (map handed (complete m ps i)) (refusalOf m k l ps a i)
-    misplaced = misplaced-by (written-at m k ps (getD a i 0) pos (G .start) (G .real i (D .arrives)))
+    misplaced = misplaced-by (written-at m k ps (getD a i 0) pos (G .sent .start) (G .sent .real i (D .arrives)))
 
   both : InPlace a → (cs : List (List ℕ)) → Served (serve r habit 0 (idle l k) [] b cs) (map handed (complete m ps (length a))) ((k + length a) % 256)
       → (serve r habit 0 (idle l k) [] b cs .events ≡ map handed (complete m ps (length a)))
       × (serve r habit 0 (idle l k) [] b cs .state .number < 256)
       × ((serve r habit 0 (idle l k) [] b cs .state .number + (length W - length a)) % 256 ≡ writer m k ps)
   both h cs (served e n) =
-      let hn : length a ≤ length W = reach (length a) a (length W) (omega arith) h (G .real) in
-      (e, rw n (omega arith), rw (n, writer-is m k ps (G .start)) (omega arith))
+      let hn : length a ≤ length W = reach (length a) a (length W) (omega arith) h (G .sent .real) in
+      (e, rw n (omega arith), rw (n, writer-is m k ps (G .sent .start)) (omega arith))
 
 pub line : (m : ℕ) → 0 < m → m ≤ largest → Line m PlainPacketCodec (plainEnd m)
 line m pos fits = record {

@@ -118,7 +118,7 @@ all-handed g hg f hf w k l b habit ps out st s start room lent acts fit cs e =
     let ln : length (upTo n) ≡ n = length-up-to n in
     let place : (j : ℕ) → j < length (upTo n) → getD (upTo n) j 0 ≡ j = λ j h. up-to-at n j (omega arith) in
     let G : Given PlainPacketCodec largest k l b habit ps (upTo n) =
-    record { start = start; room = room; lent = lent; acts = acts; fit = fit; real = λ j h. rw (place j h) (omega arith) } in
+    record { sent = record { start = start; fit = fit; real = λ j h. rw (place j h) (omega arith) }; room = room; lent = lent; acts = acts } in
     let bytes : arrived W (upTo n) ≡ flatten W =
     ap (arrived W) (sym (ap (λ (i : ℕ). take i (upTo n)) (sym ln) ∙ take-length (upTo n)))
     ∙ arrived-in-place W n (upTo n) (omega arith) (omega arith) (λ j h. up-to-at n j h)

@@ -20,9 +20,9 @@ use Rattle.line.specs.Host.{Event, handed, refusal, Called, Reader, Habi
 use Rattle.line.specs.HostLaws.{refusing}
 use Rattle.line.specs.Arrivals.{arrived, InPlace, Misplaced}
 use Rattle.line.specs.Written.{written, writer, complete}
-use Rattle.line.specs.Line.{Given, refusalOf}
+use Rattle.line.specs.Line.{Sent, Given, refusalOf}
 use Rattle.line.specs.Code.{plainEnd}
-use Rattle.line.specs.Straight.{Watched, still, before, watch, Agrees, same, sooner, Sent, StraightLine, Passes, codeThrough}
+use Rattle.line.specs.Straight.{Watched, still, before, watch, Agrees, same, sooner, StraightLine, Passes, codeThrough}
 use Rattle.line.proofs.Plain.{within}
 use Rattle.line.proofs.Passes.{Goes, stops, pays, keeps, goes, bare, run, run-none, run-refused, run-keeps, ends, run-ends, run-cut}
 use Rattle.line.proofs.Cuts.{shown, watch-joined}
@@ -152,7 +152,7 @@ module _ (m : ℕ) (pos : 0 < m) (fits : m ≤ largest) (k l : ℕ) (ps : List (
   watched pieces = watch (pass m) (idle l k) [] pieces
 
   given : Given PlainPacketCodec m k l (buffer l) host ps a
-  given = record { start = G .start; room = room l; lent = λ n d h. h; acts = λ st. refl; fit = G .fit; real = G .real }
+  given = record { sent = G; room = room l; lent = λ n d h. h; acts = λ st. refl }
 
   abbrev waited : List ℕ → Host PlainPacketCodec
   waited u = calls r host 0 (Waiting.idle l k) u (buffer l)

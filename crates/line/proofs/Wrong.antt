@@ -33,7 +33,7 @@ fits (suc (suc j)) h = absurd (omega arith)
 
 given : (S : Type 0) (a : List ℕ) → ((j : ℕ) → j < length a → getD a j 0 < 2) → Given S 3 254 4 room (plainHabit S) packets a
 unfolding written chunksOf numbered pieces cut after
-given S a real = record { start = omega arith; room = omega arith; lent = λ n d h. h; acts = λ st. refl; fit = fits; real = real }
+given S a real = record { sent = record { start = omega arith; fit = fits; real = real }; room = omega arith; lent = λ n d h. h; acts = λ st. refl }
 
 -- ---- both chunks come, in one piece
 

@@ -16,16 +16,20 @@ pub record End (S : Type 0) : Type 0 where
   pub idle : (limit number : ℕ) → S
   pub number : S → ℕ
 
--- "Two idle ends start at one sequence number", k; "one writes packets no longer than the reader's limit", ps and l; "a reader lent one
--- buffer of at least its limit", b, and after a packet whatever the host lends, again of at least the limit; the host does nothing
--- else between its calls (no reset); every arrival is a chunk that was written
-pub record Given (S : Type 0) (m k l : ℕ) (b : List ℕ) (habit : Habit S) (ps : List (List ℕ)) (a : List ℕ) : Type 0 where
+-- "Two idle ends start at one sequence number", k; "one writes packets no longer than the reader's limit", ps and l; every arrival is a
+-- chunk that was written
+pub record Sent (m k l : ℕ) (ps : List (List ℕ)) (a : List ℕ) : Type 0 where
   pub start : k < 256
+  pub fit : (j : ℕ) → j < length ps → length (getD ps j []) ≤ l
+  pub real : Real (written m k ps) a
+
+-- "a reader lent one buffer of at least its limit", b, and after a packet whatever the host lends, again of at least the limit; the host
+-- does nothing else between its calls (no reset)
+pub record Given (S : Type 0) (m k l : ℕ) (b : List ℕ) (habit : Habit S) (ps : List (List ℕ)) (a : List ℕ) : Type 0 where
+  pub sent : Sent m k l ps a
   pub room : l ≤ length b
   pub lent : (n : ℕ) (d : List ℕ) → l ≤ length d → l ≤ length (habit .lends n d)
   pub acts : (st : S) → habit .acts st ≡ st
-  pub fit : (j : ℕ) → j < length ps → length (getD ps j []) ≤ l
-  pub real : Real (written m k ps) a
 
 -- the refusal of misplaced arrival i: 2 exactly when its chunk is not empty and the bytes of the packet so far and its length exceed
 -- the limit, else 3

@@ -13,9 +13,9 @@ use Rattle.stream.specs.Stream.{Answered, needMore, part, refused, Done, doneOf
 use Rattle.stream.specs.declared.Stream.{Stream}
 use Rattle.stream.specs.declared.Passed.{Passed}
 use Rattle.line.specs.Host.{Event, handed, refusal, Habit, Host, calls}
-use Rattle.line.specs.Arrivals.{arrived, Real, InPlace, Misplaced}
+use Rattle.line.specs.Arrivals.{arrived, InPlace, Misplaced}
 use Rattle.line.specs.Written.{written, writer, complete}
-use Rattle.line.specs.Line.{refusalOf}
+use Rattle.line.specs.Line.{Sent, refusalOf}
 use Rattle.line.specs.Code.{plainEnd}
 
 -- ---- the host
@@ -89,12 +89,6 @@ abbrev pub HasWhole : Host PlainPacketCodec → Type 0
 HasWhole h = 4 ≤ length (h .unread) → leAt (h .unread) 0 3 + 4 ≤ length (h .unread)
 
 -- ---- demand 3, straight through: as specs/Line.antt has it, with no buffer
-
--- one end starts at number k and writes the packets ps, none longer than the reader's limit l; every arrival is a chunk that was written
-pub record Sent (m k l : ℕ) (ps : List (List ℕ)) (a : List ℕ) : Type 0 where
-  pub start : k < 256
-  pub fit : (j : ℕ) → j < length ps → length (getD ps j []) ≤ l
-  pub real : Real (written m k ps) a
 
 pub record StraightLine (m : ℕ) (r : Through) : Type 0 where
   -- however the bytes are cut, any t of them that hold the misplaced chunk: exactly the packets that end before that arrival, in order,
