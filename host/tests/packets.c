@@ -3,6 +3,7 @@
  * states. Each buffer ends at a page that may not be touched.
  */
 #include "lend.h"
+#include "limits.h"
 #include "mishkeldur.h"
 
 enum { M = MK_MAX_PAYLOAD };
@@ -28,16 +29,12 @@ static void open_state(uint8_t *state, size_t limit)
 
 static void opening(void)
 {
-    static const struct {
-        size_t limit;
-        uint8_t status;
-    } cases[] = {{0, MK_BAD_LIMIT}, {1, MK_OK}, {MK_MAX_LIMIT, MK_OK}, {(size_t)MK_MAX_LIMIT + 1, MK_BAD_LIMIT}, {SIZE_MAX, MK_BAD_LIMIT}};
     CHECK(mk_state_size() == MK_STATE_SIZE, "%zu", mk_state_size());
-    for (size_t i = 0; i < sizeof cases / sizeof *cases; i++) {
+    for (size_t i = 0; i < LIMITS; i++) {
         lent s = lend_end(MK_STATE_SIZE);
-        CHECK(mk_open(s.at, s.len, cases[i].limit) == cases[i].status, "limit %zu", cases[i].limit);
+        CHECK(mk_open(s.at, s.len, limits[i].limit) == limits[i].status, "limit %zu", limits[i].limit);
         looked l = look(s.at);
-        CHECK(l.closed == (cases[i].status != MK_OK) && l.number == 0 && l.frame == 0 && l.unread == 0 && l.framed == 0, "limit %zu", cases[i].limit);
+        CHECK(l.closed == (limits[i].status != MK_OK) && l.number == 0 && l.frame == 0 && l.unread == 0 && l.framed == 0, "limit %zu", limits[i].limit);
         lend_back(s);
     }
 }

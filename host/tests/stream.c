@@ -4,6 +4,7 @@
  * be touched.
  */
 #include "lend.h"
+#include "limits.h"
 #include "mishkeldur.h"
 
 enum { M = MK_MAX_PAYLOAD, OLD_ENDS = 0x77 };
@@ -36,22 +37,18 @@ static void open_stream(uint8_t *state, size_t limit, uint8_t number)
 
 static void opening(void)
 {
-    static const struct {
-        size_t limit;
-        uint8_t status;
-    } cases[] = {{0, MK_BAD_LIMIT}, {1, MK_OK}, {MK_MAX_LIMIT, MK_OK}, {(size_t)MK_MAX_LIMIT + 1, MK_BAD_LIMIT}, {SIZE_MAX, MK_BAD_LIMIT}};
-    for (size_t i = 0; i < sizeof cases / sizeof *cases; i++) {
+    for (size_t i = 0; i < LIMITS; i++) {
         lent s = lend_end(MK_STREAM_SIZE);
-        bool good = cases[i].status == MK_OK;
-        CHECK(mk_stream_open(s.at, s.len, cases[i].limit) == cases[i].status, "limit %zu", cases[i].limit);
-        CHECK(s.at[0] == 0x53 && s.at[1] == !good, "limit %zu", cases[i].limit);
+        bool good = limits[i].status == MK_OK;
+        CHECK(mk_stream_open(s.at, s.len, limits[i].limit) == limits[i].status, "limit %zu", limits[i].limit);
+        CHECK(s.at[0] == 0x53 && s.at[1] == !good, "limit %zu", limits[i].limit);
         for (size_t k = 32; k < MK_STREAM_SIZE; k++) CHECK(s.at[k] == CANARY, "byte %zu is not a stream's", k);
         passed p = pass(s.at, s.len, (const uint8_t *)"\1\0\0\0a", 5);
-        CHECK(p.status == (good ? MK_OK : MK_CLOSED) && p.used == (good ? 5u : 0u), "limit %zu: %d", cases[i].limit, p.status);
-        CHECK(!good || (p.place == 4 && p.len == 1 && p.ends == 1), "limit %zu", cases[i].limit);
+        CHECK(p.status == (good ? MK_OK : MK_CLOSED) && p.used == (good ? 5u : 0u), "limit %zu: %d", limits[i].limit, p.status);
+        CHECK(!good || (p.place == 4 && p.len == 1 && p.ends == 1), "limit %zu", limits[i].limit);
         /* A number opens nothing. */
-        CHECK(mk_stream_seq_id(s.at, s.len, 0) == MK_OK, "limit %zu", cases[i].limit);
-        CHECK(pass(s.at, s.len, NULL, 0).status == (good ? MK_NEED_MORE : MK_CLOSED), "limit %zu", cases[i].limit);
+        CHECK(mk_stream_seq_id(s.at, s.len, 0) == MK_OK, "limit %zu", limits[i].limit);
+        CHECK(pass(s.at, s.len, NULL, 0).status == (good ? MK_NEED_MORE : MK_CLOSED), "limit %zu", limits[i].limit);
         lend_back(s);
     }
 }
