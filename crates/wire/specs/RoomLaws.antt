@@ -168,33 +168,21 @@ module _ (d : List ℕ) (at : ℕ) (s : List ℕ) (r : at + length s ≤ length 
       let n : c .to ≡ length s = omega (arith, c .far, c .within) in
       c .holds ∙ ap (patch d at) (ap (λ (x : ℕ). take x s) n ∙ take-length s)
 
-  -- words that may overlap, from the front on to the end
-  pub two-words : {e₁ e₂ : List ℕ} → Step d e₁ 0 8 → Step e₁ e₂ (length s - 8) 8 → 8 ≤ length s → length s ≤ 16 → e₂ ≡ patch d at s
-  two-words w₁ w₂ l h =
-      let c = copy-on (length s - 8) 8 (copy-begun 8 w₁ l) w₂ (omega arith) (omega arith) in
-      copy-ended (length s - 8 + 8) (c .1) (omega arith)
-
-  pub four-words : {e₁ e₂ e₃ e₄ : List ℕ} → Step d e₁ 0 8 → Step e₁ e₂ 8 8 → Step e₂ e₃ (length s - 16) 8 → Step e₃ e₄ (length s - 8) 8
-      → 16 < length s → length s ≤ 32 → e₄ ≡ patch d at s
-  four-words w₁ w₂ w₃ w₄ l h =
-      let c₂ = copy-on 8 8 (copy-begun 8 w₁ (omega arith)) w₂ (omega arith) (omega arith) in
-      let c₃ = copy-on (length s - 16) 8 (c₂ .1) w₃ (omega arith) (omega arith) in
-      let c₄ = copy-on (length s - 8) 8 (c₃ .1) w₄ (omega arith) (omega arith) in
-      copy-ended (length s - 8 + 8) (c₄ .1) (omega arith)
+  -- two steps of k bytes that may overlap, the first and the last
+  pub both-ends : {e₁ e₂ : List ℕ} (k : ℕ) → Step d e₁ 0 k → Step e₁ e₂ (length s - k) k → k ≤ length s → length s ≤ k + k → e₂ ≡ patch d at s
+  both-ends k w₁ w₂ l h =
+      let c = copy-on (length s - k) k (copy-begun k w₁ l) w₂ (omega arith) (omega arith) in
+      copy-ended (length s - k + k) (c .1) (omega arith)
 
   -- two words, a run from a place within them on that leaves less than 32 bytes, and the last four words
-  pub run-and-words : {e₁ e₂ e₃ e₄ e₅ e₆ e₇ : List ℕ} (lead end : ℕ) → Step d e₁ 0 8 → Step e₁ e₂ 8 8 → Step e₂ e₃ lead (end - lead)
-      → Step e₃ e₄ (length s - 32) 8 → Step e₄ e₅ (length s - 24) 8 → Step e₅ e₆ (length s - 16) 8 → Step e₆ e₇ (length s - 8) 8
-      → 32 < length s → lead ≤ 16 → lead ≤ end → end ≤ length s → length s < end + 32 → e₇ ≡ patch d at s
-  run-and-words lead end w₁ w₂ w₃ w₄ w₅ w₆ w₇ l h g m z =
+  pub run-and-words : {e₁ e₂ e₃ e₄ : List ℕ} (lead end : ℕ) → Step d e₁ 0 16 → Step e₁ e₂ lead (end - lead) → Step e₂ e₃ (length s - 32) 16
+      → Step e₃ e₄ (length s - 16) 16 → 32 < length s → lead ≤ 16 → lead ≤ end → end ≤ length s → length s < end + 32 → e₄ ≡ patch d at s
+  run-and-words lead end w₁ w₂ w₃ w₄ l h g m z =
       let n = length s in
-      let c₂ = copy-on 8 8 (copy-begun 8 w₁ (omega arith)) w₂ (omega arith) (omega arith) in
-      let c₃ = copy-on lead (end - lead) (c₂ .1) w₃ (omega arith) (omega arith) in
-      let c₄ = copy-on (n - 32) 8 (c₃ .1) w₄ (omega arith) (omega arith) in
-      let c₅ = copy-on (n - 24) 8 (c₄ .1) w₅ (omega arith) (omega arith) in
-      let c₆ = copy-on (n - 16) 8 (c₅ .1) w₆ (omega arith) (omega arith) in
-      let c₇ = copy-on (n - 8) 8 (c₆ .1) w₇ (omega arith) (omega arith) in
-      copy-ended (n - 8 + 8) (c₇ .1) (omega arith)
+      let c₂ = copy-on lead (end - lead) (copy-begun 16 w₁ (omega arith)) w₂ (omega arith) (omega arith) in
+      let c₃ = copy-on (n - 32) 16 (c₂ .1) w₃ (omega arith) (omega arith) in
+      let c₄ = copy-on (n - 16) 16 (c₃ .1) w₄ (omega arith) (omega arith) in
+      copy-ended (n - 16 + 16) (c₄ .1) (omega arith)
 
 -- the two outcomes of a writer
 pub wrote-full : (bs d : List ℕ) (at : ℕ) → length d < at + length bs → Wrote bs d at (Refused NoRoom) d

@@ -98,12 +98,19 @@ pub fn copy_sixteen(dst: &mut [u8], at: usize, src: &[u8], j: usize)
     copy_eight(dst, at + 8, src, j + 8);
 }
 
-// Eight bytes of src to their place in a copy of all of it.
+// Eight bytes of src to their place in a copy of all of it, and sixteen.
 fn word(dst: &mut [u8], at: usize, src: &[u8], j: usize)
     requires { ⌜ (j + 8 ≤ length (now src)) × (at + length (now src) ≤ length (now dst)) ⌝ }
     ensures { λ _. ⌜ now (dst .exit) ≡ patch (now (dst .entry)) (at + j) (take 8 (drop j (now (src .entry)))) ⌝ }
 {
     copy_eight(dst, at + j, src, j);
+}
+
+fn pair(dst: &mut [u8], at: usize, src: &[u8], j: usize)
+    requires { ⌜ (j + 16 ≤ length (now src)) × (at + length (now src) ≤ length (now dst)) ⌝ }
+    ensures { λ _. ⌜ now (dst .exit) ≡ patch (now (dst .entry)) (at + j) (take 16 (drop j (now (src .entry)))) ⌝ }
+{
+    copy_sixteen(dst, at + j, src, j);
 }
 
 // More than 32 bytes. The first and the last go as words, and what lies between in wide steps from a multiple of 16 on: a store that
@@ -116,13 +123,10 @@ fn wide(dst: &mut [u8], at: usize, src: &[u8])
     let n = src.len();
     let lead = 16 - at % 16;
     let end = lead + (n - lead) / 32 * 32;
-    word(dst, at, src, 0);
-    word(dst, at, src, 8);
+    pair(dst, at, src, 0);
     run(dst, at + lead, &src[lead..end]);
-    word(dst, at, src, n - 32);
-    word(dst, at, src, n - 24);
-    word(dst, at, src, n - 16);
-    word(dst, at, src, n - 8);
+    pair(dst, at, src, n - 32);
+    pair(dst, at, src, n - 16);
 }
 
 // The bytes of src from a place on, in words that may overlap: so but for a few no byte goes by itself.
@@ -139,14 +143,13 @@ pub fn copy(dst: &mut [u8], at: usize, src: &[u8])
         wide(dst, at, src);
         return;
     }
-    word(dst, at, src, 0);
     if n <= 16 {
+        word(dst, at, src, 0);
         word(dst, at, src, n - 8);
         return;
     }
-    word(dst, at, src, 8);
-    word(dst, at, src, n - 16);
-    word(dst, at, src, n - 8);
+    pair(dst, at, src, 0);
+    pair(dst, at, src, n - 16);
 }
 
 // A field of a date or time: k bytes at a place if there are so many bytes or more, else 0.

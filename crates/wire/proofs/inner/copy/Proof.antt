@@ -1,9 +1,11 @@
-use Rattle.wire.specs.RoomLaws.{two-words, four-words}
+use Rattle.wire.specs.RoomLaws.{both-ends}
+use native.Mathlib.Omega.{arith}
 use borrow.Author.Needs.{needs}
 use Rattle.wire.proofs.inner.copy.Statement.{statement}
 use Rattle.wire.proofs.inner.copy.Tie as tie
 use Rattle.wire.proofs.inner.copy.Reads as reads
 use Rattle.wire.proofs.inner.copy.Lts as lts
+use Rattle.wire.proofs.inner.pair.Reads as pair-reads
 use Rattle.wire.proofs.inner.run.Reads as run-reads
 use Rattle.wire.proofs.inner.wide.Reads as wide-reads
 use Rattle.wire.proofs.inner.word.Reads as word-reads
@@ -37,34 +39,29 @@ same-length-3 c = search needs
 
 returns-3 : tie.Need-returns-3
 returns-3 c =
-    let f = c .before .before .before .before .before .before .before in
-    let a = f .before .before .before .before .before .before in
-    two-words (a .args .dst .now) (a .args .at) (a .args .src .now) (a .pre)
-    (f .word .ensures) (c .before .before .word2 .ensures) (f .before .before .before .if1 .left) (c .before .before .before .before .if3 .taken)
+    let f = c .before .before .before .before .before .before in
+    let a = f .before .before .before .before .before .before .before in
+    both-ends (a .args .dst .now) (a .args .at) (a .args .src .now) (a .pre) 8
+    (f .word .ensures) (c .before .before .word2 .ensures) (f .before .before .before .before .if1 .left) (f .before .before .if3 .taken)
 
-word-requires-3 : tie.Need-word-requires-3
-word-requires-3 c κs = search needs
+pair-requires : tie.Need-pair-requires
+pair-requires c κs = search needs
 
-sub-word : tie.Need-sub-word
-sub-word c = search needs
+sub-pair : tie.Need-sub-pair
+sub-pair c = search needs
 
-word-requires-4 : tie.Need-word-requires-4
-word-requires-4 c κs = search needs
-
-word-requires-5 : tie.Need-word-requires-5
-word-requires-5 c κs = search needs
+pair-requires-2 : tie.Need-pair-requires-2
+pair-requires-2 c κs = search needs
 
 same-length-4 : tie.Need-same-length-4
 same-length-4 c = search needs
 
 returns-4 : tie.Need-returns-4
 returns-4 c =
-    let h = c .before .before .before .before .before .before in
-    let g = h .before .before .before .before in
-    let f = g .before .before .before .before .before in
-    let a = f .before .before .before .before .before .before in
-    four-words (a .args .dst .now) (a .args .at) (a .args .src .now) (a .pre)
-    (f .word .ensures) (g .word3 .ensures) (h .word4 .ensures) (c .before .before .word5 .ensures) (g .before .before .if3 .left) (f .before .before .if2 .left)
+    let f = c .before .before .before .before .before .before in
+    let a = f .before .before .before .before .before .before .before in
+    both-ends (a .args .dst .now) (a .args .at) (a .args .src .now) (a .pre) 16
+    (f .pair .ensures) (c .before .before .pair2 .ensures) (omega arith) (f .before .before .before .if2 .left)
 
 pub copy-spec : {M : Type 1} → statement M
 copy-spec =
@@ -80,9 +77,8 @@ copy-spec =
     word-requires-2
     same-length-3
     returns-3
-    word-requires-3
-    sub-word
-    word-requires-4
-    word-requires-5
+    pair-requires
+    sub-pair
+    pair-requires-2
     same-length-4
     returns-4)
