@@ -1,7 +1,7 @@
 -- What a quoted form means to a server, by MySQL's "String Literals". It is written from that page, apart from what we write.
 use Prim.Native.Nat.{ℕ}
 use mathlib.Core.Bool.{Bool, cond}
-use mathlib.Core.List.{List, [], _∷_}
+use mathlib.Core.List.{List, [], _∷_, _++_}
 use lib.Dec.{eqb}
 use Rattle.escape.specs.Quote.{quote, backslash}
 
@@ -10,23 +10,24 @@ pub data Literal : Type 0 where
   literal : List ℕ → List ℕ → Literal
   none : Literal
 
-abbrev pub also : ℕ → Literal → Literal
-also b (literal bs rest) = literal (b ∷ bs) rest
-also b none = none
+-- what it means with some bytes more in front
+abbrev pub also : List ℕ → Literal → Literal
+also bs (literal cs rest) = literal (bs ++ cs) rest
+also bs none = none
 
--- "Special Character Escape Sequences": `\0` `\b` `\n` `\r` `\t` `\Z`; `\%` and `\_` keep their backslash; "for all other escape
--- sequences, backslash is ignored"
-abbrev pub escapeMeans : ℕ → Literal → Literal
-escapeMeans c rest =
-    cond (eqb c 0x30) (also 0x00 rest)
-    (cond (eqb c 0x62) (also 0x08 rest)
-    (cond (eqb c 0x6E) (also 0x0A rest)
-    (cond (eqb c 0x72) (also 0x0D rest)
-    (cond (eqb c 0x74) (also 0x09 rest)
-    (cond (eqb c 0x5A) (also 0x1A rest)
-    (cond (eqb c 0x25) (also backslash (also c rest))
-    (cond (eqb c 0x5F) (also backslash (also c rest))
-    (also c rest))))))))
+-- "Special Character Escape Sequences": what a backslash and this byte mean. `\0` `\b` `\n` `\r` `\t` `\Z`; `\%` and `\_` keep their
+-- backslash; "for all other escape sequences, backslash is ignored"
+unfoldable pub escapeMeans : ℕ → List ℕ
+escapeMeans c =
+    cond (eqb c 0x30) (0x00 ∷ [])
+    (cond (eqb c 0x62) (0x08 ∷ [])
+    (cond (eqb c 0x6E) (0x0A ∷ [])
+    (cond (eqb c 0x72) (0x0D ∷ [])
+    (cond (eqb c 0x74) (0x09 ∷ [])
+    (cond (eqb c 0x5A) (0x1A ∷ [])
+    (cond (eqb c 0x25) (backslash ∷ c ∷ [])
+    (cond (eqb c 0x5F) (backslash ∷ c ∷ [])
+    (c ∷ []))))))))
 
 -- behind the opening quote: "a ' inside a string quoted with ' may be written as ''", and any other quote ends it. A backslash
 -- escapes unless the mode NO_BACKSLASH_ESCAPES is on
@@ -34,8 +35,8 @@ unfoldable pub inside : (noBackslash : Bool) → List ℕ → Literal
 inside noBackslash [] = none
 inside noBackslash (b ∷ []) = cond (eqb b quote) (literal [] []) none
 inside noBackslash (b ∷ c ∷ s) =
-    cond (eqb b quote) (cond (eqb c quote) (also quote (inside noBackslash s)) (literal [] (c ∷ s)))
-    (cond (cond noBackslash Bool.false (eqb b backslash)) (escapeMeans c (inside noBackslash s)) (also b (inside noBackslash (c ∷ s))))
+    cond (eqb b quote) (cond (eqb c quote) (also (quote ∷ []) (inside noBackslash s)) (literal [] (c ∷ s)))
+    (cond (cond noBackslash Bool.false (eqb b backslash)) (also (escapeMeans c) (inside noBackslash s)) (also (b ∷ []) (inside noBackslash (c ∷ s))))
 
 unfoldable pub literalOf : (noBackslash : Bool) → List ℕ → Literal
 literalOf noBackslash [] = none

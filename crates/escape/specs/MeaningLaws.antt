@@ -13,7 +13,7 @@ use Rattle.wire.specs.Room.{Wrote}
 use Rattle.wire.specs.RoomLaws.{wrote-left}
 use Rattle.wire.specs.declared.Put.{Put}
 use Rattle.escape.specs.Quote.{quote, backslash, behind, becomes, body, quoted}
-use Rattle.escape.specs.Meaning.{literal, also, inside, literalOf, meaning, meaningOf}
+use Rattle.escape.specs.Meaning.{literal, also, escapeMeans, inside, literalOf, meaning, meaningOf}
 
 -- a number that is k, or is not
 whether : {P : Type 0} (b k : ℕ) → (b ≡ k → P) → (eqb b k ≡ false → P) → P
@@ -25,12 +25,12 @@ whether {P} b k y n = by (eqb b k) refl
 
 -- one byte: what it becomes means the byte, before any other
 module _ (b c : ℕ) (s : List ℕ) where
-  byte-other : inside true (becomes true b ++ (c ∷ s)) ≡ also b (inside true (c ∷ s))
+  byte-other : inside true (becomes true b ++ (c ∷ s)) ≡ also (b ∷ []) (inside true (c ∷ s))
   unfolding inside becomes
   byte-other = whether b quote (λ e. rw e) (λ n. simp n)
 
-  byte-backslash : inside false (becomes false b ++ (c ∷ s)) ≡ also b (inside false (c ∷ s))
-  unfolding inside becomes behind
+  byte-backslash : inside false (becomes false b ++ (c ∷ s)) ≡ also (b ∷ []) (inside false (c ∷ s))
+  unfolding inside becomes behind escapeMeans
   byte-backslash =
       whether b 0x00 (λ e. rw e) (λ n₀.
       whether b 0x0A (λ e. rw e) (λ n₁.
@@ -41,7 +41,7 @@ module _ (b c : ℕ) (s : List ℕ) where
       whether b 0x22 (λ e. rw e) (λ n₆.
       simp (n₀, n₁, n₂, n₃, n₄, n₅, n₆))))))))
 
-byte-means : (m : Bool) (b c : ℕ) (s : List ℕ) → inside m (becomes m b ++ (c ∷ s)) ≡ also b (inside m (c ∷ s))
+byte-means : (m : Bool) (b c : ℕ) (s : List ℕ) → inside m (becomes m b ++ (c ∷ s)) ≡ also (b ∷ []) (inside m (c ∷ s))
 byte-means true = byte-other
 byte-means false = byte-backslash
 
@@ -52,7 +52,7 @@ ends m [] n = refl
 ends m (c ∷ s) n = simp (ne-eqb c quote n)
 
 -- every byte in turn
-byte-before : (m : Bool) (b : ℕ) (s : List ℕ) → 0 < length s → inside m (becomes m b ++ s) ≡ also b (inside m s)
+byte-before : (m : Bool) (b : ℕ) (s : List ℕ) → 0 < length s → inside m (becomes m b ++ s) ≡ also (b ∷ []) (inside m s)
 byte-before m b [] h = absurd (omega arith)
 byte-before m b (c ∷ s) h = byte-means m b c s
 
@@ -62,7 +62,7 @@ body-means m [] s n = ends m s n
 body-means m (b ∷ bs) s n =
     ap (inside m) (append-assoc (becomes m b) (body m bs) (quote ∷ s))
     ∙ byte-before m b (body m bs ++ (quote ∷ s)) (omega (arith, length-append (body m bs) (quote ∷ s)))
-    ∙ ap (also b) (body-means m bs s n)
+    ∙ ap (also (b ∷ [])) (body-means m bs s n)
 
 -- The quoted form, before anything but another quote, is read as the bytes that were given, and what stood behind it stands
 -- behind it still: no bytes can end the literal early or draw in what follows.

@@ -3,7 +3,7 @@ use Prim.Native.Nat.{ℕ}
 use mathlib.Core.Path.{_≡_, refl}
 use mathlib.Core.Bool.{Bool, true, false}
 use mathlib.Core.List.{List, [], _∷_, map}
-use Rattle.literal.specs.Grammar.{escapeMeans}
+use Rattle.escape.specs.Meaning.{escapeMeans}
 use Rattle.literal.specs.Checked.{Verdict, means, bad, inside, checked}
 
 pub record Example : Type 0 where

@@ -9,7 +9,7 @@ use lib.Dec.{eqb, leb}
 use Rattle.refusal.specs.Number.{number}
 use Rattle.wire.specs.Room.{patch}
 use Rattle.escape.specs.Quote.{quote, backslash}
-use Rattle.literal.specs.Grammar.{escapeMeans}
+use Rattle.escape.specs.Meaning.{escapeMeans}
 use Rattle.literal.specs.declared.Answer.{Answer}
 use Rattle.literal.specs.declared.Answer.the-variants.{Means, Refused}
 

@@ -1,25 +1,11 @@
 -- The grammar of single-quoted literals, by MySQL's "String Literals" and docs/LITERALS.md: which bytes are a literal, and what it means.
 use Prim.Native.Nat.{ℕ, _+_, _≤_, _<_}
 use mathlib.Core.Path.{_≡_}
-use mathlib.Core.Bool.{Bool, cond, false}
+use mathlib.Core.Bool.{Bool, false}
 use mathlib.Core.List.{List, [], _∷_, _++_}
 use lib.ListN.{length, take}
-use lib.Dec.{eqb}
 use Rattle.escape.specs.Quote.{quote, backslash}
-
--- "Special Character Escape Sequences": what a backslash and this byte mean. `\0` `\b` `\n` `\r` `\t` `\Z`; `\%` and `\_` keep their
--- backslash; "for all other escape sequences, backslash is ignored"
-unfoldable pub escapeMeans : ℕ → List ℕ
-escapeMeans c =
-    cond (eqb c 0x30) (0x00 ∷ [])
-    (cond (eqb c 0x62) (0x08 ∷ [])
-    (cond (eqb c 0x6E) (0x0A ∷ [])
-    (cond (eqb c 0x72) (0x0D ∷ [])
-    (cond (eqb c 0x74) (0x09 ∷ [])
-    (cond (eqb c 0x5A) (0x1A ∷ [])
-    (cond (eqb c 0x25) (backslash ∷ c ∷ [])
-    (cond (eqb c 0x5F) (backslash ∷ c ∷ [])
-    (c ∷ []))))))))
+use Rattle.escape.specs.Meaning.{escapeMeans}
 
 -- one item inside the quotes: the bytes that are written, and the bytes that they mean. A byte that is no quote and, where backslashes
 -- escape, no backslash; "a ' inside a string quoted with ' may be written as ''"; and an escape, unless NO_BACKSLASH_ESCAPES is on

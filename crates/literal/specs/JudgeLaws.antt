@@ -10,7 +10,8 @@ use lib.Seq.{drop-drop, length-take-le}
 use borrow.Author.Tests.{ne-eqb}
 use Rattle.escape.specs.Quote.{quote, backslash}
 use Rattle.escape.specs.QuoteLaws.{firstOf}
-use Rattle.literal.specs.Grammar.{escapeMeans, Item, doubled, escape}
+use Rattle.escape.specs.Meaning.{escapeMeans}
+use Rattle.literal.specs.Grammar.{Item, doubled, escape}
 use Rattle.literal.specs.Checked.{Verdict, means, bad, also, inside, checked, Judged, fine, refused, counted, said}
 use Rattle.literal.specs.CheckedLaws.{item-reads}
 use Rattle.literal.specs.RunLaws.{cleanRun, run-le, run-reads, one-left, two-left}

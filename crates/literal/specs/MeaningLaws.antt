@@ -6,38 +6,21 @@ use mathlib.Core.List.{List, [], _∷_, _++_, append-assoc}
 use borrow.Author.Tests.{ne-eqb}
 use Rattle.escape.specs.Quote.{quote}
 use Rattle.escape.specs.Meaning as M
-use Rattle.literal.specs.Grammar.{escapeMeans, Item, itself, doubled, escape, Items, none, more, Literal, literal}
+use Rattle.literal.specs.Grammar.{Item, itself, doubled, escape, Items, none, more, Literal, literal}
 use Rattle.literal.specs.CheckedLaws.{backslash-not}
 
--- several bytes more
-abbrev alsoAll : List ℕ → M.Literal → M.Literal
-alsoAll [] l = l
-alsoAll (b ∷ bs) l = M.also b (alsoAll bs l)
-
-also-literal : (bs cs : List ℕ) → alsoAll bs (M.literal cs []) ≡ M.literal (bs ++ cs) []
-also-literal [] cs = refl
-also-literal (b ∷ bs) cs = ap (M.also b) (also-literal bs cs)
-
-also-cond : (t : Bool) (a b : List ℕ) (l : M.Literal) → alsoAll (cond t a b) l ≡ cond t (alsoAll a l) (alsoAll b l)
-also-cond true a b l = refl
-also-cond false a b l = refl
-
-escape-same : (c : ℕ) (l : M.Literal) → M.escapeMeans c l ≡ alsoAll (escapeMeans c) l
-unfolding escapeMeans
-escape-same c l = simp also-cond
-
-item-same : {m : Bool} {w b : List ℕ} → Item m w b → (s : List ℕ) → M.inside m (w ++ s) ≡ alsoAll b (M.inside m s)
+item-same : {m : Bool} {w b : List ℕ} → Item m w b → (s : List ℕ) → M.inside m (w ++ s) ≡ M.also b (M.inside m s)
 unfolding M.inside
 item-same (itself c n o) [] = simp (ne-eqb c quote n)
 item-same {m} (itself c n o) (x ∷ s) = simp (ne-eqb c quote n, backslash-not m c o)
 item-same doubled s = refl
-item-same (escape c e) s = rw e (escape-same c (M.inside false s))
+item-same (escape c e) s = rw e
 
 items-same : {m : Bool} {ws bs : List ℕ} → Items m ws bs → M.inside m (ws ++ (quote ∷ [])) ≡ M.literal bs []
 unfolding M.inside
 items-same none = refl
 items-same {m} (more {w} {b} {ws} {bs} i is) =
-    ap (M.inside m) (append-assoc w ws (quote ∷ [])) ∙ item-same i (ws ++ (quote ∷ [])) ∙ ap (alsoAll b) (items-same is) ∙ also-literal b bs
+    ap (M.inside m) (append-assoc w ws (quote ∷ [])) ∙ item-same i (ws ++ (quote ∷ [])) ∙ ap (M.also b) (items-same is)
 
 pub literal-read : {m : Bool} {s bs : List ℕ} → Literal m s bs → M.literalOf m s ≡ M.literal bs []
 unfolding M.literalOf

@@ -11,7 +11,8 @@ use lib.Dec.{ltb, eqb}
 use lib.Seq.{take-append-add, take-take}
 use borrow.Author.Tests.{ne-eqb, ltb-true, ltb-false}
 use Rattle.escape.specs.Quote.{quote, backslash, behind, becomes, body, quoted}
-use Rattle.literal.specs.Grammar.{escapeMeans, Item, itself, doubled, escape, Items, none, more, Literal, literal, Begins, Place}
+use Rattle.escape.specs.Meaning.{escapeMeans}
+use Rattle.literal.specs.Grammar.{Item, itself, doubled, escape, Items, none, more, Literal, literal, Begins, Place}
 use Rattle.literal.specs.Checked.{Verdict, means, bad, also, inside, checked}
 use Rattle.literal.specs.CheckedLaws.{whether, means-not-bad, item-reads, Reading, ends, closes, cut, behind as beyond, goes, reading}
 

@@ -12,7 +12,8 @@ use lib.Dec.{eqb}
 use borrow.Author.Tests.{ne-eqb}
 use Rattle.escape.specs.Quote.{quote, backslash}
 use Rattle.escape.specs.QuoteLaws.{firstOf}
-use Rattle.literal.specs.Grammar.{escapeMeans, Item, itself}
+use Rattle.escape.specs.Meaning.{escapeMeans}
+use Rattle.literal.specs.Grammar.{Item, itself}
 use Rattle.literal.specs.Checked.{Verdict, means, bad, also, inside}
 use Rattle.literal.specs.CheckedLaws.{whether, item-reads}
 

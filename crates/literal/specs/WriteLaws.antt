@@ -13,7 +13,7 @@ use Rattle.wire.specs.Room.{patch}
 use Rattle.wire.specs.RoomLaws.{patch-append}
 use Rattle.escape.specs.Quote.{quote, backslash}
 use Rattle.escape.specs.QuoteLaws.{firstOf}
-use Rattle.literal.specs.Grammar.{escapeMeans}
+use Rattle.escape.specs.Meaning.{escapeMeans}
 use Rattle.literal.specs.Checked.{Verdict, means, bad, also, inside, checked}
 use Rattle.literal.specs.CheckedLaws.{whether, means-not-bad}
 use Rattle.literal.specs.RunLaws.{clean, cleanRun, special, run-reads, one-left, two-left}

@@ -13,7 +13,7 @@ ghost use lib.ListN.{length, drop, getD};
 ghost use Rattle.escape.specs.Quote.{quote, backslash};
 ghost use Rattle.escape.specs.QuoteLaws.{firstOf};
 ghost use Rattle.wire.specs.Room.{patch};
-ghost use Rattle.literal.specs.Grammar.{escapeMeans};
+ghost use Rattle.escape.specs.Meaning.{escapeMeans};
 ghost use Rattle.literal.specs.Checked.{checked, counted, means, refused, said, Meant};
 ghost use Rattle.literal.specs.RunLaws.{clean, cleanRun, escapeByte};
 ghost use Rattle.literal.specs.JudgeLaws.{Turned};

@@ -1,4 +1,4 @@
-use Rattle.literal.specs.Grammar.{escapeMeans}
+use Rattle.escape.specs.Meaning.{escapeMeans}
 use Rattle.literal.specs.RunLaws.{escape-one}
 use lib.ListN.{length}
 use mathlib.Core.Path.{ap, sym}

@@ -1,4 +1,4 @@
-use Rattle.literal.specs.Grammar.{escapeMeans}
+use Rattle.escape.specs.Meaning.{escapeMeans}
 use Rattle.literal.specs.RunLaws.{escapeByte, escape-two, escape-not-two}
 use Rattle.wire.specs.RoomLaws.{patch-one, patch-two}
 use Rattle.escape.specs.Quote.{backslash}

@@ -1,6 +1,6 @@
 use Rattle.literal.specs.RunLaws.{cleanRun, run-special}
 use Rattle.literal.specs.WriteLaws.{rest, Sound, Passed, passed-some, passed-on, sound-within, run-sound, run-rest, pair-sound, pair-rest}
-use Rattle.literal.specs.Grammar.{escapeMeans}
+use Rattle.escape.specs.Meaning.{escapeMeans}
 use Rattle.escape.specs.QuoteLaws.{firstOf}
 use lib.ListN.{length, take, drop, getD, length-append, length-drop}
 use lib.Seq.{length-take-le}
