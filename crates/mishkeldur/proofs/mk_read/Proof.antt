@@ -74,7 +74,7 @@ returns-2 c =
     rw (c .wrapping-add-u8 .ensures, c .before .before .before .before .copy .ensures)
     (reads-whole (a .state .now) (c .before .before .before .before .before .before .before .before .before .before .if1 .left)
     (λ i. omega (arith, byte i)) (a .src .now) (a .staging .now) (a .packet .now) (h .result)
-    (c .before .before .before .before .before .before .before .before .whole .ensures (c .before .before .before .before .before .before .before .if2 .taken)))
+    (h .ensures (c .before .before .before .before .before .before .before .if2 .taken)))
 
 whole-frame-requires : tie.Need-whole-frame-requires
 whole-frame-requires c κs = search needs
@@ -136,8 +136,7 @@ returns-3 c =
     let a = up .before .before .before .before .before .before .before .before .before .before .before .before .args in
     let h = c .before .before .before .before .before .before .before .before .before .before .whole-frame in
     let byte = up .before .before .before .before .before .before .before .before .before .before .before .slice-known .given in
-    let w = (c .before .before .before .before .before .before .before .before .before .before .whole-frame .ensures
-    (c .before .before .before .before .before .before .before .before .before .if3 .taken)) in
+    let w = (h .ensures (c .before .before .before .before .before .before .before .before .before .if3 .taken)) in
     let s = a .state .now in
     rw (
       c .wrapping-add-u83 .ensures,

@@ -35,10 +35,11 @@ same-length c = search needs
 
 returns-2 : tie.Need-returns-2
 returns-2 c =
+    let p = c .before .before .before .before .before .before in
     let q = c .before .before .before .before .before .before .before .before in
     let a = q .before .before .before .args in
     salvage-written (a .limit) (a .capture .now) (a .out .now) (q .stretches .result) (q .stretches .ensures)
-    (c .before .before .before .before .before .before .n .given .0 .0) (c .before .before .before .before .before .before .n .given .1)
+    (p .n .given .0 .0) (p .n .given .1)
     (c .before .before .before .before .if1 .left) _ (c .before .before .write-all .ensures)
 
 returns-3 : tie.Need-returns-3

@@ -35,13 +35,14 @@ same-length c = search needs
 
 returns : tie.Need-returns
 returns c =
+    let p = c .before .before .before .before .before in
     let a = c .before .before .before .before .before .before .before .before .before .before .args in
     let e = took-more largest (a .st) (a .len) (a .number) (a .src .now) (a .dst .now) (c .before .if1 .taken) in
     rw (
       e,
       c .pass .ensures,
-      took-put (a .st .taken) (a .len) (a .src .now) (a .dst .now) (c .before .before .before .before .before .copy .last .0)
-          (c .before .before .before .before .before .copy .ensures),
+      took-put (a .st .taken) (a .len) (a .src .now) (a .dst .now) (p .copy .last .0)
+          (p .copy .ensures),
     )
 
 pass-requires-2 : tie.Need-pass-requires-2
@@ -52,13 +53,14 @@ same-length-2 c = search needs
 
 returns-2 : tie.Need-returns-2
 returns-2 c =
+    let p = c .before .before .before .before .before in
     let a = c .before .before .before .before .before .before .before .before .before .before .args in
     let e = took-last largest (a .st) (a .len) (a .number) (a .src .now) (a .dst .now) (c .before .if1 .left) in
     rw (
       e,
       c .pass2 .ensures,
-      took-put (a .st .taken) (a .len) (a .src .now) (a .dst .now) (c .before .before .before .before .before .copy .last .0)
-          (c .before .before .before .before .before .copy .ensures),
+      took-put (a .st .taken) (a .len) (a .src .now) (a .dst .now) (p .copy .last .0)
+          (p .copy .ensures),
     )
 
 pub take-chunk-spec : {M : Type 1} → statement M

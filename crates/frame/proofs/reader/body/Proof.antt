@@ -59,12 +59,13 @@ stop-requires-3 c κs = search needs
 
 returns-3 : tie.Need-returns-3
 returns-3 c =
-    let a = c .before .before .before .before .before .before .before .before .before .args in
+    let p = c .before .before .before .before .before .before .before .before .before in
+    let a = p .args in
     let z = c .before .before .before .before .before in
     let h : a .len + 7 ≤ length (a .src .now) =
     omega (arith, has-yes (7 + a .len) (length (a .src .now)) (z .before .has .ensures) (not-false _ (z .if1 .left))) in
     let r : length (a .staging .now) < a .codec .unread + a .len = omega
-    (arith, c .before .if3 .taken, c .before .before .before .before .before .before .before .before .before .pre) in
+    (arith, c .before .if3 .taken, p .pre) in
     λ b. rw (
       body-no-room (a .codec) (a .len) (a .number) (a .src .now) (unreadOf (a .codec) (a .staging .now)) (length (a .staging .now)) b h
           (c .before .before .before .if2 .left) r,
@@ -73,25 +74,27 @@ returns-3 c =
 
 take-frame-requires : tie.Need-take-frame-requires
 take-frame-requires c κs =
-    let a = c .before .before .before .before .before .before .before .before .before .args in
+    let p = c .before .before .before .before .before .before .before .before .before in
+    let a = p .args in
     let z = c .before .before .before .before .before in
     let h : a .len + 7 ≤ length (a .src .now) =
     omega (arith, has-yes (7 + a .len) (length (a .src .now)) (z .before .has .ensures) (not-false _ (z .if1 .left))) in
-    (h, omega (arith, c .before .if3 .left, c .before .before .before .before .before .before .before .before .before .pre))
+    (h, omega (arith, c .before .if3 .left, p .pre))
 
 same-length : tie.Need-same-length
 same-length c = search needs
 
 returns-4 : tie.Need-returns-4
 returns-4 c =
-    let a = c .before .before .before .before .before .before .before .before .before .before .before .before .args in
+    let p = c .before .before .before .before .before .before .before .before .before .before .before .before in
+    let a = p .args in
     let z = c .before .before .before .before .before .before .before .before in
     let h : a .len + 7 ≤ length (a .src .now) =
     omega (arith, has-yes (7 + a .len) (length (a .src .now)) (z .before .has .ensures) (not-false _ (z .if1 .left))) in
     let r : a .codec .unread + a .len ≤ length (a .staging .now) = omega (
       arith,
       c .before .before .before .before .if3 .left,
-      c .before .before .before .before .before .before .before .before .before .before .before .before .pre,
+      p .pre,
     ) in
     let unread = unreadOf (a .codec) (a .staging .now) in
     let room = length (a .staging .now) in

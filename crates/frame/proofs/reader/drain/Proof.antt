@@ -24,31 +24,34 @@ slice-reshare-prefix-decode-with c = search needs
 
 slice-aggregate-decode-with : tie.Need-slice-aggregate-decode-with
 slice-aggregate-decode-with c =
-    let a = c .before .before .before .before .before .before .args in
-    sym (length-take-le (a .codec .unread) (a .staging .now) (c .before .before .before .before .before .before .pre))
+    let p = c .before .before .before .before .before .before in
+    let a = p .args in
+    sym (length-take-le (a .codec .unread) (a .staging .now) (p .pre))
 
 decode-with-requires : tie.Need-decode-with-requires
 decode-with-requires c κs = search needs
 
 sub-left : tie.Need-sub-left
 sub-left c =
+    let p = c .before .before .before .before .before in
     let d = c .before .before .before .decode-with in
     let s = c .before .before .before .before .before .before .before .before .before .before in
     let a = s .args in
     drain-fits (a .codec) (a .staging .now) (a .dst .now) (d .last .0)
     (c .before .before .before .before .before .before .before .last-number .result)
-    (c .before .before .before .before .before .plain-of .result) (d .result) (s .pre)
-    (c .before .before .before .before .before .plain-of .ensures) (d .ensures)
+    (p .plain-of .result) (d .result) (s .pre)
+    (p .plain-of .ensures) (d .ensures)
 
 shift-left-requires : tie.Need-shift-left-requires
 shift-left-requires c κs =
+    let p = c .before .before .before .before .before .before in
     let d = c .before .before .before .before .decode-with in
     let s = c .before .before .before .before .before .before .before .before .before .before .before in
     let a = s .args in
     let f = drain-fits (a .codec) (a .staging .now) (a .dst .now) (d .last .0)
     (c .before .before .before .before .before .before .before .before .last-number .result)
-    (c .before .before .before .before .before .before .plain-of .result) (d .result) (s .pre)
-    (c .before .before .before .before .before .before .plain-of .ensures) (d .ensures) in
+    (p .plain-of .result) (d .result) (s .pre)
+    (p .plain-of .ensures) (d .ensures) in
     (omega arith, omega (arith, f, s .pre))
 
 with-plain-requires : tie.Need-with-plain-requires
@@ -62,15 +65,17 @@ same-length-2 c = search needs
 
 returns : tie.Need-returns
 returns c =
+    let q = c .before .before .before .before .before .before .before .before .before .before in
+    let p = c .before .before .before .before .before .before .before .before .before .before .before .before in
     let d = c .before .before .before .before .before .before .before .before .decode-with in
     let s = c .before .before .before .before .before .before .before .before .before .before .before .before .before .before .before in
     let a = s .args in
     drain-is (a .codec) (a .staging .now) (a .dst .now) (d .last .0)
-    (c .before .before .before .before .before .before .before .before .before .before .before .before .last-number .result)
-    (c .before .before .before .before .before .before .before .before .before .before .plain-of .result) (d .result) (s .pre)
-    (c .before .before .before .before .before .before .before .before .before .before .plain-of .ensures) (d .ensures)
+    (p .last-number .result)
+    (q .plain-of .result) (d .result) (s .pre)
+    (q .plain-of .ensures) (d .ensures)
     (c .with-plain .result) (c .before .before .before .shift-left .last .0)
-    (c .before .before .before .before .before .before .before .before .before .before .before .before .last-number .ensures)
+    (p .last-number .ensures)
     (c .with-plain .ensures) (c .before .before .before .shift-left .ensures)
 
 pub drain-spec : {M : Type 1} → statement M

@@ -33,13 +33,14 @@ wants-requires c κs = search needs
 
 frame-requires-2 : tie.Need-frame-requires-2
 frame-requires-2 c κs =
+    let p = c .before .before .before .before .before .before .before .before .before .before .before .before .before .before .before .before in
     let d = c .before .before .before .before .before .before .before .before .drain in
-    let a = c .before .before .before .before .before .before .before .before .before .before .before .before .before .before .before .before .args in
+    let a = p .args in
     omega (
       arith,
       less (a .codec) (a .src .now) (a .staging .now) (a .dst .now) (d .last .0) (d .last .1 .0) (d .result) (d .ensures),
       d .kept .0,
-      c .before .before .before .before .before .before .before .before .before .before .before .before .before .before .before .before .pre,
+      p .pre,
     )
 
 same-length-2 : tie.Need-same-length-2

@@ -42,13 +42,15 @@ same-length c =
 
 returns : tie.Need-returns
 returns c =
+    let q = c .before .before .before .before .before .before in
+    let p = c .before .before .before .before .before .before .before .before .before .before in
     let s = c .before .before .before .before .before .before .before .before .before .before .before .before .before in
     let a = s .args in
     frame-put (a .dst .now) (a .at) (a .number) (a .from) (a .n)
-    (c .before .before .before .before .before .before .before .before .before .before .put-le .last .0)
-    (c .before .before .before .before .before .before .put-le2 .last .0) (c .before .before .shift-left .last .0) (s .pre .0) (s .pre .1)
-    (c .before .before .before .before .before .before .before .before .before .before .put-le .ensures)
-    (c .before .before .before .before .before .before .put-le2 .ensures) (c .before .before .shift-left .ensures)
+    (p .put-le .last .0)
+    (q .put-le2 .last .0) (c .before .before .shift-left .last .0) (s .pre .0) (s .pre .1)
+    (p .put-le .ensures)
+    (q .put-le2 .ensures) (c .before .before .shift-left .ensures)
 
 pub put-frame-spec : {M : Type 1} → statement M
 put-frame-spec =

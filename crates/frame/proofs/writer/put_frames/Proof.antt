@@ -68,9 +68,10 @@ same-length c = search needs
 returns : tie.Need-returns Inv-loop μ-loop
 unfolding next
 returns c =
+    let p = c .before .before .before .before .before .before .before .before in
     let l = c .before .before .before .before .before .before .loop in
-    let a = c .before .before .before .before .before .before .before .before .args in
-    let q = c .before .before .before .before .before .before .before .before .pre in
+    let a = p .args in
+    let q = p .pre in
     let f = c .before .before .before .put-frame2 in
     rw (c .wrapping-add-u82 .ensures, q .2)
     (head-last (a .dst .now) (a .first) (a .total) (a .piece) (l .dst) (l .left) (l .out) (l .from) (l .number) (l .inv) (f .last .0) (omega arith)

@@ -28,8 +28,9 @@ same-length c = search needs
 returns : tie.Need-returns
 unfolding needed
 returns c =
-    let a = c .before .before .before .before .before .before .before .before .before .before .args in
-    let q = c .before .before .before .before .before .before .before .before .before .before .pre in
+    let p = c .before .before .before .before .before .before .before .before .before .before in
+    let a = p .args in
+    let q = p .pre in
     let f = c .before .before .put-frames in
     let g = c .before .before .before .before .before .before .put-chunks in
     let some : 0 < a .n = omega (arith, q .1) in (
