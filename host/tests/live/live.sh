@@ -17,18 +17,7 @@ have() { command -v "$1" > /dev/null 2>&1; }
 PATH=$PATH:/usr/sbin:/sbin
 export PATH
 
-# The core packages have the server and its client, and neither start a service nor make an account.
-install_server() {
-    DEBIAN_FRONTEND=noninteractive apt-get install -y --no-install-recommends mariadb-server-core mariadb-client-core > /dev/null
-}
-if ! have mariadbd || ! have mariadb-install-db || ! have mariadb; then
-    if [ "$(id -u)" != 0 ] || ! have apt-get; then
-        say "please install a MariaDB server (Debian: mariadb-server, or mariadb-server-core and mariadb-client-core)"
-        exit 1
-    fi
-    say "installing mariadb-server-core and mariadb-client-core"
-    install_server || { apt-get update > /dev/null || true; install_server || { say "they can't be installed"; exit 1; }; }
-fi
+tests/live/need.sh
 
 work=$(mktemp -d /tmp/live.XXXXXX)
 socket=$work/socket
