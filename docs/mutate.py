@@ -84,9 +84,10 @@ def main():
         count, shown = collections.Counter(), []
         for (_, path, [(_, old, new)]), word in edits.words(chosen, args.jobs):
             count[word.said] += 1
-            if word.said not in (edits.REFUSED, edits.SHAPE):
-                shown.append(f'    {word.said}: {path}: `{old.strip().splitlines()[-1].strip()}` -> `{new.strip().splitlines()[-1].strip()}` {word.why[:200]}')
-        print(f'{room}: {len(chosen)} of {of}: ' + ', '.join(f'{n} {said}' for said, n in sorted(count.items())), *shown, sep='\n', file=out, flush=True)
+            if word.said == edits.SURVIVED:
+                shown.append(f'    {path}: `{old.splitlines()[-1].strip()}` -> `{new.splitlines()[-1].strip()}`')
+        print(f'{room}: {len(chosen)} of {of}: {count[edits.REFUSED]} refused at a fact, {count[edits.SHAPE]} at the shape, {count[edits.BAD]} no programs, '
+              f'{count[edits.SURVIVED]} survive', *shown, sep='\n', file=out, flush=True)
 
 
 if __name__ == '__main__':

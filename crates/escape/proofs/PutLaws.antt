@@ -5,17 +5,17 @@ use mathlib.Core.Bool.{Bool, true, false, cond}
 use mathlib.Core.List.{List, [], _∷_, _++_, append-assoc, append-nil}
 use native.Mathlib.Omega.{arith}
 use native.Mathlib.Decide.{ℕ-discrete}
-use native.Mathlib.Nat.{add-assoc, add-zero}
+use native.Mathlib.Nat.{add-zero}
 use native.Mathlib.Numerals.{add-one}
 use lib.ListN.{length, take, drop, set, getD, length-set, length-append, length-drop, take-append-drop}
 use lib.Seq.{drop-drop, drop-cons, take-suc, take-all, take-add, getD-drop, getD-take}
 use lib.Dec.{eqb}
-use borrow.Author.Tests.{ne-eqb, eq-eqb, eqb-true, eqb-false}
+use borrow.Author.Tests.{ne-eqb, eq-eqb, eqb-true}
 use Rattle.wire.specs.Room.{patch}
 use Rattle.wire.specs.RoomLaws.{patch-append, patch-again, patch-cons, patch-one, patch-two, length-patch}
 use Rattle.escape.specs.Quote.{quote, behind, becomes, body, quoted}
 use Rattle.escape.specs.QuoteLaws.{secondOf, moreOf, mores, body-length, becomes-itself, becomes-two}
-use Rattle.escape.specs.Turns.{markOf, Marks, Slots, Leads, Leading}
+use Rattle.escape.specs.Turns.{markOf, Marks, Slots, Clean, Leads, Leading}
 use Rattle.wire.specs.TableLaws.{every, every-at, tells, told-at}
 
 -- ---- which bytes become two, as a sum of comparisons
@@ -223,6 +223,25 @@ mores-part m s i k =
     ∙ mores-append m (take k (drop i s)) (drop k (drop i s))
     ∙ ap (λ (x : List ℕ). mores m (take k (drop i s)) + mores m x) (drop-drop k i s)
 
+-- a part more that has none
+pub clean-on : (m : Bool) (s : List ℕ) (i k : ℕ) → mores m (take i s) ≡ 0 → mores m (take k (drop i s)) ≡ 0 → mores m (take (i + k) s) ≡ 0
+clean-on m s i k p q = ap (mores m) (take-add i k s) ∙ omega (arith, p, q, mores-append m (take i s) (take k (drop i s)))
+
+-- parts that cover all
+pub clean-all : (m : Bool) (s : List ℕ) (i j k : ℕ) → j ≤ i → length s ≤ j + k → mores m (take i s) ≡ 0 → mores m (take k (drop j s)) ≡ 0 → mores m s ≡ 0
+clean-all m s i j k h l p q =
+    let rest : mores m (drop j s) ≡ 0 = ap (mores m) (sym (take-all k (drop j s) (omega (arith, length-drop j s)))) ∙ q in
+    let front : mores m s ≡ mores m (take i s) + mores m (drop i s) = ap (mores m) (sym (take-append-drop i s)) ∙ mores-append m (take i s) (drop i s) in
+    let sum : j + (i - j) ≡ i = omega arith in
+    omega (arith, p, rest, front, rw sum at (mores-part m s j (i - j)))
+
+-- the word on them: a no tells nothing, and a yes comes of a count that is 0
+pub clean-no : (m : Bool) (s : List ℕ) → Clean m s false
+clean-no m s = record { none = λ e. absurd (let y : _≡_ {A = ℕ} 0 1 = cc in omega arith) }
+
+pub clean-by : (m : Bool) (s : List ℕ) (n : ℕ) → (n ≡ 0 → mores m s ≡ 0) → Clean m s (eqb n 0)
+clean-by m s n f = record { none = λ e. f (eqb-true n 0 e) }
+
 -- one byte further
 pub mores-step : (m : Bool) (s : List ℕ) (i j : ℕ) → i + j < length s
     → mores m (take (j + 1) (drop i s)) ≡ mores m (take j (drop i s)) + moreOf m (getD s (i + j) 0)
@@ -233,12 +252,6 @@ mores-step m s i j h =
     let e : take (j + 1) (drop i s) ≡ take j (drop i s) ++ one =
     rw add-one (take-suc (drop i s) j 0 l ∙ ap (λ (b : ℕ). take j (drop i s) ++ (b ∷ [])) (getD-drop i s j 0)) in
     ap (mores m) e ∙ omega (arith, mores-append m (take j (drop i s)) one)
-
-pub body-step : (m : Bool) (s : List ℕ) (i : ℕ) → i < length s → body m (take (i + 1) s) ≡ body m (take i s) ++ becomes m (getD s i 0)
-unfolding body
-body-step m s i h =
-    let e : take (i + 1) s ≡ take i s ++ (getD s i 0 ∷ []) = rw add-one (take-suc s i 0 h) in
-    ap (body m) e ∙ body-append m (take i s) (getD s i 0 ∷ []) ∙ ap (λ (x : List ℕ). body m (take i s) ++ x) (append-nil (becomes m (getD s i 0)))
 
 -- what comes behind the first i bytes
 pub body-room : (m : Bool) (s : List ℕ) (i : ℕ) → i < length s → length (body m (take i s)) + 1 ≤ length (body m s)

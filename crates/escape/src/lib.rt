@@ -13,9 +13,9 @@ ghost use mathlib.Core.List.{[], _∷_};
 ghost use lib.ListN.{length, take, drop};
 ghost use lib.Dec.{leb, eqb};
 ghost use mathlib.Core.Bool.{true, false, cond};
-ghost use Rattle.escape.specs.Quote.{quoted, body};
-ghost use Rattle.escape.specs.QuoteLaws.{moreOf, mores};
-ghost use Rattle.escape.specs.Turns.{Slots, Marks, Leading, Came};
+ghost use Rattle.escape.specs.Quote.{quoted, behind, body};
+ghost use Rattle.escape.specs.QuoteLaws.{firstOf, secondOf, moreOf, mores};
+ghost use Rattle.escape.specs.Turns.{Slots, Marks, Clean, Leading, Came};
 ghost use Rattle.wire.specs.Room.{Wrote, patch, lengthOf, neededSaid};
 
 // What stands behind the backslash, for each byte, and a point where it stands for itself.
@@ -23,6 +23,64 @@ const ALL: [u8; 256] = *b"0.........n..r............Z.......\"....'.............
     ............................\\...................................\
     ................................................................\
     ................................................................";
+
+// The byte behind the backslash, or 0 where a byte stands for itself.
+fn escape_of(b: u8) -> u8
+    ensures { λ r. ⌜ r ≡ behind b ⌝ }
+{
+    match b {
+        0x00 => 0x30,
+        0x0A => 0x6E,
+        0x0D => 0x72,
+        0x1A => 0x5A,
+        0x5C => 0x5C,
+        0x27 => 0x27,
+        0x22 => 0x22,
+        _ => 0,
+    }
+}
+
+// The second of the two bytes that a byte becomes, or 0 where it stands for itself.
+fn second_of(b: u8, no_backslash_escape: bool) -> u8
+    ensures { λ r. ⌜ r ≡ secondOf «no_backslash_escape» b ⌝ }
+{
+    if no_backslash_escape {
+        if b == 0x27 { 0x27 } else { 0 }
+    } else {
+        escape_of(b)
+    }
+}
+
+// The first of the two bytes.
+fn first_of(no_backslash_escape: bool) -> u8
+    ensures { λ r. ⌜ r ≡ firstOf «no_backslash_escape» ⌝ }
+{
+    if no_backslash_escape { 0x27 } else { 0x5C }
+}
+
+// How many bytes a byte takes beside the first.
+fn more_by(b: u8, no_backslash_escape: bool) -> usize
+    ensures { λ r. ⌜ r ≡ moreOf «no_backslash_escape» b ⌝ }
+{
+    if second_of(b, no_backslash_escape) == 0 {
+        0
+    } else {
+        1
+    }
+}
+
+// How many bytes become two, for fewer than 8: so few go by branches faster than by anything that has to be set up.
+fn mores_few(input: &[u8], no_backslash_escape: bool) -> usize
+    ensures { λ r. ⌜ r ≡ mores «no_backslash_escape» (now (input .entry)) ⌝ }
+{
+    let mut n: usize = 0;
+    let mut i = 0;
+    while i < input.len() {
+        n += more_by(input[i], no_backslash_escape);
+        i += 1;
+    }
+    n
+}
 
 // 1 if a byte is another, else 0.
 fn is(b: u8, other: u8) -> u8
@@ -55,27 +113,42 @@ fn mores_in(input: &[u8], i: usize, k: usize, no_backslash_escape: bool) -> u8
     n
 }
 
-// How many quotes there are, for short inputs.
-fn quotes(input: &[u8]) -> usize
-    ensures { λ r. ⌜ r ≡ mores true (now (input .entry)) ⌝ }
+// Whether no byte becomes two, by parts of k, each one test; the last may overlap the one before it.
+fn clean_by(input: &[u8], k: usize, no_backslash_escape: bool) -> bool
+    requires { ⌜ (0 < k) × (k ≤ 64) × (k ≤ length (now input)) ⌝ }
+    ensures { λ r. ⌜ Clean «no_backslash_escape» (now (input .entry)) r ⌝ }
 {
-    let mut n: usize = 0;
+    let n = input.len();
     let mut i = 0;
-    while i < input.len() {
-        n += more_of(input[i], true) as usize;
-        i += 1;
+    while k < n - i {
+        if mores_in(input, i, k, no_backslash_escape) != 0 {
+            return false;
+        }
+        i += k;
     }
-    n
+    mores_in(input, n - k, k, no_backslash_escape) == 0
+}
+
+// The same, by parts as wide as the input allows.
+fn clean(input: &[u8], no_backslash_escape: bool) -> bool
+    requires { ⌜ 8 ≤ length (now input) ⌝ }
+    ensures { λ r. ⌜ Clean «no_backslash_escape» (now (input .entry)) r ⌝ }
+{
+    if input.len() < 16 {
+        return clean_by(input, 8, no_backslash_escape);
+    }
+    if input.len() < 64 {
+        return clean_by(input, 16, no_backslash_escape);
+    }
+    clean_by(input, 64, no_backslash_escape)
 }
 
 // How many bytes become two.
 fn mores(input: &[u8], no_backslash_escape: bool) -> usize
     ensures { λ r. ⌜ r ≡ mores «no_backslash_escape» (now (input .entry)) ⌝ }
 {
-    if no_backslash_escape {
-        if input.len() < 64 {
-            return quotes(input);
-        }
+    if input.len() < 8 {
+        return mores_few(input, no_backslash_escape);
     }
     let mut n: usize = 0;
     let mut i = 0;
@@ -99,6 +172,36 @@ pub fn escaped_len(input: &[u8], no_backslash_escape: bool) -> Needed
         return Needed::Refused(Refusal::NoRoom);
     }
     Needed::Bytes(input.len() + more + 2)
+}
+
+// What one byte becomes, and the place behind it, by branches.
+fn put_byte(dst: &mut [u8], at: usize, b: u8, no_backslash_escape: bool) -> usize
+    requires { ⌜ at + 2 ≤ length (now dst) ⌝ }
+    ensures { λ r. ⌜ Leading «no_backslash_escape» (b ∷ []) (now (dst .entry)) at r (now (dst .exit)) ⌝ }
+{
+    let second = second_of(b, no_backslash_escape);
+    if second == 0 {
+        dst[at] = b;
+        at + 1
+    } else {
+        dst[at] = first_of(no_backslash_escape);
+        dst[at + 1] = second;
+        at + 2
+    }
+}
+
+// The same of fewer than 8 bytes, one by one, where something has to follow.
+fn put_few(dst: &mut [u8], at: usize, src: &[u8], no_backslash_escape: bool) -> usize
+    requires { ⌜ at + length (body «no_backslash_escape» (now src)) + 1 ≤ length (now dst) ⌝ }
+    ensures { λ r. ⌜ Leading «no_backslash_escape» (now (src .entry)) (now (dst .entry)) at r (now (dst .exit)) ⌝ }
+{
+    let mut next = at;
+    let mut i = 0;
+    while i < src.len() {
+        next = put_byte(dst, next, src[i], no_backslash_escape);
+        i += 1;
+    }
+    next
 }
 
 // Where a byte stands in the short list of marks, if it is there: no two of those that get a backslash share a slot.
@@ -235,16 +338,14 @@ struct Step {
     from: usize,
 }
 
-// A long input without a quote is copied: to look for one costs little beside what it may save.
+// An input without a quote is copied: to look for one costs little beside what it may save.
 fn put_doubled(dst: &mut [u8], at: usize, input: &[u8]) -> usize
-    requires { ⌜ at + length (body true (now input)) + 1 ≤ length (now dst) ⌝ }
+    requires { ⌜ (8 ≤ length (now input)) × (at + length (body true (now input)) + 1 ≤ length (now dst)) ⌝ }
     ensures { λ r. ⌜ Leading true (now (input .entry)) (now (dst .entry)) at r (now (dst .exit)) ⌝ }
 {
-    if 64 <= input.len() {
-        if mores(input, true) == 0 {
-            inner::copy(dst, at, input);
-            return at + input.len();
-        }
+    if clean(input, true) {
+        inner::copy(dst, at, input);
+        return at + input.len();
     }
     put_doubles(dst, at, input)
 }
@@ -291,6 +392,9 @@ fn put_body(dst: &mut [u8], at: usize, input: &[u8], no_backslash_escape: bool) 
     requires { ⌜ at + length (body «no_backslash_escape» (now input)) + 1 ≤ length (now dst) ⌝ }
     ensures { λ r. ⌜ Leading «no_backslash_escape» (now (input .entry)) (now (dst .entry)) at r (now (dst .exit)) ⌝ }
 {
+    if input.len() < 8 {
+        return put_few(dst, at, input, no_backslash_escape);
+    }
     if no_backslash_escape {
         return put_doubled(dst, at, input);
     }
@@ -300,8 +404,22 @@ fn put_body(dst: &mut [u8], at: usize, input: &[u8], no_backslash_escape: bool) 
     put_all(dst, at, input)
 }
 
-// Each makes its list once, and where it is needed alone.
+// An input that is not too short is copied if all its bytes stand for themselves.
 fn put_short(dst: &mut [u8], at: usize, input: &[u8]) -> usize
+    requires { ⌜ at + length (body false (now input)) + 1 ≤ length (now dst) ⌝ }
+    ensures { λ r. ⌜ Leading false (now (input .entry)) (now (dst .entry)) at r (now (dst .exit)) ⌝ }
+{
+    if 16 <= input.len() {
+        if clean(input, false) {
+            inner::copy(dst, at, input);
+            return at + input.len();
+        }
+    }
+    put_marked(dst, at, input)
+}
+
+// Each makes its list once, and where it is needed alone: a function makes it before all else, so it is not made beside a test that may spare it.
+fn put_marked(dst: &mut [u8], at: usize, input: &[u8]) -> usize
     requires { ⌜ at + length (body false (now input)) + 1 ≤ length (now dst) ⌝ }
     ensures { λ r. ⌜ Leading false (now (input .entry)) (now (dst .entry)) at r (now (dst .exit)) ⌝ }
 {

@@ -13,7 +13,7 @@ use Rattle.escape.proofs.mores.Tie as tie
 use Rattle.escape.proofs.mores.Reads as reads
 use Rattle.escape.proofs.mores.Lts as lts
 use Rattle.escape.proofs.mores_in.Reads as mores-in-reads
-use Rattle.escape.proofs.quotes.Reads as quotes-reads
+use Rattle.escape.proofs.mores_few.Reads as mores-few-reads
 
 -- the last part is all that is left
 last : (m : Bool) (s : List ℕ) (i : ℕ) {r : ℕ} → r ≡ mores m (take (length s - i) (drop i s)) → r ≡ mores m (drop i s)
@@ -25,11 +25,11 @@ Inv-loop input mode n₀ i₀ n i = (i ≤ length input) × (n + mores mode (dro
 abbrev μ-loop : tie.MeasureT-loop
 μ-loop input mode n₀ i₀ n i = length input - i
 
-quotes-requires : tie.Need-quotes-requires Inv-loop μ-loop
-quotes-requires c κs = search needs
+mores-few-requires : tie.Need-mores-few-requires Inv-loop μ-loop
+mores-few-requires c κs = search needs
 
 returns : tie.Need-returns Inv-loop μ-loop
-returns c = rw (c .before .before .if1 .taken) (c .quotes .ensures)
+returns c = search needs
 
 loop-holds : tie.Need-loop-holds Inv-loop μ-loop
 loop-holds c = (omega arith, omega arith)
@@ -95,7 +95,7 @@ mores-spec =
     (tie.spec
     Inv-loop
     μ-loop
-    quotes-requires
+    mores-few-requires
     returns
     loop-holds
     sub-loop
