@@ -377,19 +377,43 @@ fn lone_right(out: &mut [u8], line: &[u8]) -> bool {
     }
 }
 
-fn step(out: &mut [u8], staging: &mut [u8], dst: &mut [u8], st: PacketCodec, line: &[u8]) -> End {
+// A line that changes a connection, and neither reads nor writes.
+fn turn_line(staging: &[u8], st: PacketCodec, line: &[u8]) -> End {
     match half(line, 0) {
-        0x05 => put_lent(out, field(line, 1).len(), staging, st, line),
-        0x06 => put_lent(out, field(line, 2).len(), staging, st, line),
-        0x07 => put_lent(out, field(line, 2).len(), staging, st, line),
         0x10 => open_line(line),
         0x11 => call_line(staging, codec::frames_on(st), line),
         0x12 => call_line(staging, codec::reset_seq_id(st), line),
         0x13 => call_line(staging, codec::sync_seq_id(st), line),
-        0x14 => put_lent(out, field(line, 2).len(), staging, st, line),
-        0x15 => read_lent(staging, dst, st, line),
-        _ => ended(st, lone_right(out, line)),
+        _ => ended(st, false),
     }
+}
+
+// The field of a line that has the bytes wanted, or 0 for a line that doesn't write.
+fn wanted_field(op: usize) -> usize
+    ensures { λ r. ⌜ r < 8 ⌝ }
+{
+    match op {
+        0x05 => 1,
+        0x06 => 2,
+        0x07 => 2,
+        0x14 => 2,
+        _ => 0,
+    }
+}
+
+fn step(out: &mut [u8], staging: &mut [u8], dst: &mut [u8], st: PacketCodec, line: &[u8]) -> End {
+    let op = half(line, 0);
+    if op == 0x15 {
+        return read_lent(staging, dst, st, line);
+    }
+    let j = wanted_field(op);
+    if j != 0 {
+        return put_lent(out, field(line, j).len(), staging, st, line);
+    }
+    if op < 0x10 {
+        return ended(st, lone_right(out, line));
+    }
+    turn_line(staging, st, line)
 }
 
 fn say(what: &[u8], n: usize) {
@@ -458,15 +482,20 @@ fn say_op(what: &[u8], file: &[u8], op: usize) {
     say(what, count_op(file, word(file, 0), op));
 }
 
-fn say_counts(file: &[u8]) {
-    say(b"lines ", word(file, 0));
+fn say_reads(file: &[u8]) {
     say_op(b"  length-encoded integers read ", file, 0x01);
     say_op(b"  length-encoded strings read ", file, 0x02);
     say_op(b"  binary values read ", file, 0x03);
     say_op(b"  text values read ", file, 0x04);
+}
+
+fn say_writes(file: &[u8]) {
     say_op(b"  length-encoded integers written ", file, 0x05);
     say_op(b"  values written ", file, 0x06);
     say_op(b"  texts quoted ", file, 0x07);
+}
+
+fn say_connections(file: &[u8]) {
     say_op(b"  connections opened ", file, 0x10);
     say_op(b"  frames turned on ", file, 0x11);
     say_op(b"  numbers reset ", file, 0x12);
@@ -475,23 +504,33 @@ fn say_counts(file: &[u8]) {
     say_op(b"  packet reads ", file, 0x15);
 }
 
-fn main() {
+fn run(file: &[u8]) {
+    let n = word(file, 0);
+    say(b"lines ", n);
+    say_reads(file);
+    say_writes(file);
+    say_connections(file);
+    let mut out = [0u8; 4096];
+    let mut staging = [0u8; 4096];
+    let mut dst = [0u8; 2048];
+    // Before the first connection the codec is a closed one: no line has the limit 0.
+    let first = open_line(b"").st;
+    let count = replay(&mut out, &mut staging, &mut dst, first, file, n);
+    say(b"differences ", count);
+}
+
+fn load(buffer: &mut [u8]) {
     let fd = os::open_read(b"answers");
     if fd < 0 {
         os::fail(b"answers");
         return;
     }
-    let mut buffer = [0u8; 262144];
-    let size = io::read_full(fd, &mut buffer);
+    let size = io::read_full(fd, buffer);
     libc::close(fd);
-    let file = &buffer[..size];
-    let mut out = [0u8; 4096];
-    let mut staging = [0u8; 4096];
-    let mut dst = [0u8; 2048];
-    let n = word(file, 0);
-    say_counts(file);
-    // Before the first connection the codec is a closed one: no line has the limit 0.
-    let first = open_line(b"").st;
-    let count = replay(&mut out, &mut staging, &mut dst, first, file, n);
-    say(b"differences ", count);
+    run(part(buffer, 0, size));
+}
+
+fn main() {
+    let mut buffer = [0u8; 262144];
+    load(&mut buffer);
 }

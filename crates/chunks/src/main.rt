@@ -244,25 +244,47 @@ struct Ends {
     right: bool,
 }
 
-// One packet from an end to the other.
-fn pass_on(out: &mut [u8], back: &mut [u8], ends: Ends, packet: &[u8]) -> Ends {
-    let sent = chunk::packet_to_chunks(out, ends.writer, packet);
-    let put = sent.put;
-    let n = match put {
-        Put::Next(n) => n,
-        Put::Refused(_) => 0,
-    };
-    let got = chunk::decode(back, ends.reader, part(out, 0, n));
+// The reading end then, and whether it read what it should.
+struct Back {
+    reader: PlainPacketCodec,
+    right: bool,
+}
+
+// Reads bytes that must be one packet, to their end.
+fn read_back(back: &mut [u8], reader: PlainPacketCodec, bytes: &[u8], packet: &[u8]) -> Back {
+    let got = chunk::decode(back, reader, bytes);
     let answer = got.answer;
     let right = match answer {
         Answer::NeedMore => false,
         Answer::Packet(l) => check::same(part(back, 0, l), packet),
         Answer::Refused(_) => false,
     };
-    Ends {
-        writer: sent.next,
+    Back {
         reader: got.next,
-        right: right && got.used == n,
+        right: right && got.used == bytes.len(),
+    }
+}
+
+// How many bytes were written.
+fn written(put: Put) -> usize {
+    match put {
+        Put::Next(n) => n,
+        Put::Refused(_) => 0,
+    }
+}
+
+// One packet from an end to the other.
+fn pass_on(out: &mut [u8], back: &mut [u8], ends: Ends, packet: &[u8]) -> Ends {
+    let sent = chunk::packet_to_chunks(out, ends.writer, packet);
+    let put = sent.put;
+    let n = written(put);
+    let got = read_back(back, ends.reader, part(out, 0, n), packet);
+    let writer = sent.next;
+    let reader = got.reader;
+    Ends {
+        writer,
+        reader,
+        right: got.right,
     }
 }
 
@@ -297,6 +319,14 @@ struct Run {
     right: bool,
 }
 
+// Whether a writer put exactly these bytes.
+fn is_put(put: Put, out: &[u8], bytes: &[u8]) -> bool {
+    match put {
+        Put::Next(n) => check::same(part(out, 0, n), bytes),
+        Put::Refused(_) => false,
+    }
+}
+
 // The command as the client sent it, out of its payload.
 fn send(out: &mut [u8], codec: PlainPacketCodec, bytes: &[u8]) -> Run {
     let sent = chunk::packet_to_chunks(
@@ -306,15 +336,11 @@ fn send(out: &mut [u8], codec: PlainPacketCodec, bytes: &[u8]) -> Run {
     );
     let put = sent.put;
     let next = sent.next;
-    let right = match put {
-        Put::Next(n) => check::same(part(out, 0, n), bytes),
-        Put::Refused(_) => false,
-    };
     Run {
         codec: next,
         used: bytes.len(),
         packets: 1,
-        right,
+        right: is_put(put, out, bytes),
     }
 }
 
@@ -379,6 +405,18 @@ fn receive(dst: &mut [u8], codec: PlainPacketCodec, bytes: &[u8], from: usize, m
     }
 }
 
+// A command, and its answer from behind what the server said before.
+fn ask(out: &mut [u8], dst: &mut [u8], before: Run, command: &[u8], answer: &[u8]) -> Run {
+    let sent = send(out, before.codec, command);
+    let got = receive(dst, sent.codec, answer, before.used, 60_000);
+    Run {
+        codec: got.codec,
+        used: got.used,
+        packets: std::num::wrapping_add_usize(before.packets, got.packets),
+        right: sent.right && got.right,
+    }
+}
+
 // A command and its answer; at the login the server speaks first.
 fn exchange(out: &mut [u8], dst: &mut [u8], codec: PlainPacketCodec, file: &[u8], k: usize) -> Run
     requires { ⌜ k < 4000 ⌝ }
@@ -388,14 +426,7 @@ fn exchange(out: &mut [u8], dst: &mut [u8], codec: PlainPacketCodec, file: &[u8]
     let answer = part(file, word(file, at + 8), word(file, at + 12));
     let many = if k == 0 { 1 } else { 0 };
     let hello = receive(dst, chunk::reset_seq_id(codec), answer, 0, many);
-    let sent = send(out, hello.codec, command);
-    let got = receive(dst, sent.codec, answer, hello.used, 60_000);
-    Run {
-        codec: got.codec,
-        used: got.used,
-        packets: std::num::wrapping_add_usize(hello.packets, got.packets),
-        right: sent.right && got.right,
-    }
+    ask(out, dst, hello, command, answer)
 }
 
 // A connection: how many exchanges went as captured, and the packets that the server sent in them.
@@ -441,16 +472,7 @@ fn open_codec(limit: usize) -> PlainPacketCodec {
     }
 }
 
-fn run_capture(name: &[u8]) {
-    let fd = os::open_read(name);
-    if fd < 0 {
-        os::fail(name);
-        return;
-    }
-    let mut buffer = io::large_buffer();
-    let size = io::read_full(fd, &mut buffer);
-    libc::close(fd);
-    let file = &buffer[..size];
+fn replay_capture(name: &[u8], file: &[u8]) {
     let mut out = [0u8; 65536];
     let mut dst = [0u8; 61440];
     let r = replay(&mut out, &mut dst, open_codec(LIMIT), file, word(file, 0));
@@ -462,20 +484,39 @@ fn run_capture(name: &[u8]) {
     }
 }
 
-fn run_cases() {
+fn run_capture(name: &[u8]) {
+    let fd = os::open_read(name);
+    if fd < 0 {
+        os::fail(name);
+        return;
+    }
+    let mut buffer = io::large_buffer();
+    let size = io::read_full(fd, &mut buffer);
+    libc::close(fd);
+    replay_capture(name, part(&buffer, 0, size));
+}
+
+fn try_cases(file: &[u8]) {
+    let mut space = [0u8; 4096];
+    let n = word(file, 0);
+    say(b"cases ", n);
+    say(b"  differences ", differences(&mut space, file, n));
+}
+
+fn load_cases(buffer: &mut [u8]) {
     let fd = os::open_read(b"vectors");
     if fd < 0 {
         os::fail(b"vectors");
         return;
     }
-    let mut buffer = [0u8; 262144];
-    let size = io::read_full(fd, &mut buffer);
+    let size = io::read_full(fd, buffer);
     libc::close(fd);
-    let file = &buffer[..size];
-    let mut space = [0u8; 4096];
-    let n = word(file, 0);
-    say(b"cases ", n);
-    say(b"  differences ", differences(&mut space, file, n));
+    try_cases(part(buffer, 0, size));
+}
+
+fn run_cases() {
+    let mut buffer = [0u8; 262144];
+    load_cases(&mut buffer);
 }
 
 fn run_ends() {

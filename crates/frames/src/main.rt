@@ -201,19 +201,28 @@ fn try_decode(staging: &mut [u8], buf: &mut [u8], codec: PacketCodec, file: &[u8
     run_of(file, at, r.next, is_got(file, at, got))
 }
 
+// An operation that lends no buffer.
+fn try_turn(codec: PacketCodec, file: &[u8], at: usize) -> Run
+    requires { ⌜ at < 0x10_0000 ⌝ }
+{
+    match short(file, at) {
+        0 => try_opening(file, at),
+        1 => run_of(file, at, codec::frames_on(codec), true),
+        2 => run_of(file, at, codec::reset_seq_id(codec), true),
+        3 => run_of(file, at, codec::sync_seq_id(codec), true),
+        _ => run_of(file, at, codec, false),
+    }
+}
+
 // The operation at a place; both buffers are as long as its own.
 fn try_one(staging: &mut [u8], buf: &mut [u8], codec: PacketCodec, file: &[u8], at: usize) -> Run
     requires { ⌜ at < 0x10_0000 ⌝ }
 {
     wire::put_slice(buf, 0, part(file, word(file, 4), word(file, at + 16)));
     match short(file, at) {
-        0 => try_opening(file, at),
-        1 => run_of(file, at, codec::frames_on(codec), true),
-        2 => run_of(file, at, codec::reset_seq_id(codec), true),
-        3 => run_of(file, at, codec::sync_seq_id(codec), true),
         4 => try_encode(buf, codec, file, at),
         5 => try_decode(staging, buf, codec, file, at),
-        _ => run_of(file, at, codec, false),
+        _ => try_turn(codec, file, at),
     }
 }
 
@@ -308,13 +317,18 @@ fn say_kinds(file: &[u8], n: usize) {
     say(b"  decode ", having(file, n, 0, 5));
 }
 
+// Refusals that only frames bring.
+fn say_framed(file: &[u8], n: usize) {
+    say(b"  4 bad frame header ", having(file, n, 1, 4));
+    say(b"  5 packed ", having(file, n, 1, 5));
+}
+
 fn say_answers(file: &[u8], n: usize) {
     say(b"need more ", having(file, n, 1, 0));
     say(b"refused: 1 bad limit ", having(file, n, 1, 1));
     say(b"  2 too large ", having(file, n, 1, 2));
     say(b"  3 out of sync ", having(file, n, 1, 3));
-    say(b"  4 bad frame header ", having(file, n, 1, 4));
-    say(b"  5 packed ", having(file, n, 1, 5));
+    say_framed(file, n);
     say(b"  6 no room ", having(file, n, 1, 6));
     say(b"  7 closed ", having(file, n, 1, 7));
 }
@@ -366,6 +380,14 @@ fn number_frames(bytes: &mut [u8]) {
     }
 }
 
+fn say_got(got: Got) {
+    match got {
+        Got::NeedMore(used) => say(b"empty frames in one call, bytes used ", used),
+        Got::Packet(_, n) => say(b"empty frames: a packet of ", n),
+        Got::Refused(_, why) => say(b"empty frames: refused ", number_of(why) as usize),
+    }
+}
+
 fn read_frames(bytes: &[u8]) {
     let mut staging = [0u8; 4];
     let mut space = [0u8; 4];
@@ -376,11 +398,7 @@ fn read_frames(bytes: &[u8]) {
         &mut space,
     );
     let got = r.got;
-    match got {
-        Got::NeedMore(used) => say(b"empty frames in one call, bytes used ", used),
-        Got::Packet(_, n) => say(b"empty frames: a packet of ", n),
-        Got::Refused(_, why) => say(b"empty frames: refused ", number_of(why) as usize),
-    }
+    say_got(got);
     say(b"the frame number then ", r.next.frame as usize);
 }
 

@@ -58,15 +58,19 @@ const GAP: usize = 3;
 
 const ROW: usize = 4;
 
-// A connection and what came over it. Unread bytes stand from `at` to `have` in the receiving buffer, and `left` bytes of the
-// answer are still to come. `answer` and `len` are the codec's last answer: a packet's length, or a refusal's number.
-struct Night {
+// A connection. Unread bytes stand from `at` to `have` in the receiving buffer, and `left` bytes of the answer are still to come.
+// `answer` and `len` are the codec's last answer: a packet's length, or a refusal's number.
+struct Line {
     codec: PacketCodec,
     at: usize,
     have: usize,
     left: usize,
     answer: usize,
     len: usize,
+}
+
+// What came over it.
+struct Counts {
     exchanges: usize,
     phase: usize,
     columns: usize,
@@ -79,6 +83,11 @@ struct Night {
     timeless: usize,
     queue: usize,
     wrong: usize,
+}
+
+struct Night {
+    line: Line,
+    counts: Counts,
 }
 
 fn more(n: usize) -> usize {
@@ -151,8 +160,8 @@ fn receive(room: &mut [u8], fd: i32, have: usize, most: usize) -> usize
     io::read_full(fd, &mut room[have..end])
 }
 
-fn refill(room: &mut [u8], fd: i32, night: Night) -> Night {
-    let mut n = night;
+fn refill(room: &mut [u8], fd: i32, line: Line) -> Line {
+    let mut n = line;
     let have = settle(room, n.at, n.have);
     let got = receive(room, fd, have, least(PIECE, n.left));
     n.answer = AGAIN;
@@ -166,14 +175,9 @@ fn refill(room: &mut [u8], fd: i32, night: Night) -> Night {
     n
 }
 
-// One call of the codec on what is there.
-fn call(room: &[u8], staging: &mut [u8], dst: &mut [u8], night: Night) -> Night {
-    let mut n = night;
-    let unread = part(room, n.at, std::num::wrapping_sub_usize(n.have, n.at));
-    let d = codec::decode(n.codec, unread, staging, dst);
-    let next = d.next;
-    let got = d.got;
-    n.codec = next;
+// What the codec answered, and the bytes that it used.
+fn answered(got: Got, line: Line) -> Line {
+    let mut n = line;
     match got {
         Got::NeedMore(used) => {
             n.answer = MORE;
@@ -194,9 +198,20 @@ fn call(room: &[u8], staging: &mut [u8], dst: &mut [u8], night: Night) -> Night 
     n
 }
 
+// One call of the codec on what is there.
+fn call(room: &[u8], staging: &mut [u8], dst: &mut [u8], line: Line) -> Line {
+    let mut n = line;
+    let unread = part(room, n.at, std::num::wrapping_sub_usize(n.have, n.at));
+    let d = codec::decode(n.codec, unread, staging, dst);
+    let next = d.next;
+    n.codec = next;
+    let got = d.got;
+    answered(got, n)
+}
+
 // The same, and if the codec needs more and more is to come, that is received.
-fn turn(room: &mut [u8], staging: &mut [u8], dst: &mut [u8], fd: i32, night: Night) -> Night {
-    let n = call(room, staging, dst, night);
+fn turn(room: &mut [u8], staging: &mut [u8], dst: &mut [u8], fd: i32, line: Line) -> Line {
+    let n = call(room, staging, dst, line);
     if n.answer != MORE {
         return n;
     }
@@ -207,14 +222,8 @@ fn turn(room: &mut [u8], staging: &mut [u8], dst: &mut [u8], fd: i32, night: Nig
 }
 
 // The next packet of the answer, or what stands in its way: no frame of this limit needs more than two pieces.
-fn next_packet(
-    room: &mut [u8],
-    staging: &mut [u8],
-    dst: &mut [u8],
-    fd: i32,
-    night: Night,
-) -> Night {
-    let mut n = night;
+fn next_packet(room: &mut [u8], staging: &mut [u8], dst: &mut [u8], fd: i32, line: Line) -> Line {
+    let mut n = line;
     let mut turns: usize = 0;
     while turns < 4 {
         n = turn(room, staging, dst, fd, n);
@@ -236,6 +245,10 @@ fn past(s: &[u8], at: usize) -> usize {
     }
 }
 
+fn past_two(s: &[u8], at: usize) -> usize {
+    past(s, past(s, at))
+}
+
 fn is_string(s: &[u8], at: usize, what: &[u8]) -> bool {
     match wire::checked_eat_lenenc_str(s, at) {
         ReadStr::Done(p) => check::same(part(s, p.at, p.len), what),
@@ -243,24 +256,30 @@ fn is_string(s: &[u8], at: usize, what: &[u8]) -> bool {
     }
 }
 
+// A list that is too short for a column is left as it is.
+fn keep(list: &mut [u8], i: usize, b: u8) {
+    wire::put_u8(list, i, b);
+}
+
+// Keeps the type of column i and whether it is unsigned.
+fn keep_type(types: &mut [u8], signs: &mut [u8], s: &[u8], fixed: usize, i: usize) {
+    keep(types, i, short(s, std::num::wrapping_add_usize(fixed, 7)));
+    let flags = flags_at(s, std::num::wrapping_add_usize(fixed, 8));
+    keep(signs, i, if flags & 0x20 == 0 { 0 } else { 1 });
+}
+
 // A column's definition: catalog, schema, table, its own name, name, its own name; 12, character set, length, type, flags.
-fn column(types: &mut [u8], signs: &mut [u8], s: &[u8], night: Night) -> Night {
-    let mut n = night;
-    let name = past(s, past(s, past(s, past(s, 0))));
-    let fixed = past(s, past(s, name));
+fn column(types: &mut [u8], signs: &mut [u8], s: &[u8], counts: Counts) -> Counts {
+    let mut n = counts;
+    let name = past_two(s, past_two(s, 0));
+    let fixed = past_two(s, name);
     if short(s, fixed) != 12 {
         n.wrong = more(n.wrong);
     }
     if is_string(s, name, b"t0") {
         n.clock = n.seen;
     }
-    wire::put_u8(
-        types,
-        n.seen,
-        short(s, std::num::wrapping_add_usize(fixed, 7)),
-    );
-    let flags = flags_at(s, std::num::wrapping_add_usize(fixed, 8));
-    wire::put_u8(signs, n.seen, if flags & 0x20 == 0 { 0 } else { 1 });
+    keep_type(types, signs, s, fixed, n.seen);
     n.seen = more(n.seen);
     if n.seen == n.columns {
         n.phase = GAP;
@@ -268,8 +287,8 @@ fn column(types: &mut [u8], signs: &mut [u8], s: &[u8], night: Night) -> Night {
     n
 }
 
-fn column_count(s: &[u8], night: Night) -> Night {
-    let mut n = night;
+fn column_count(s: &[u8], counts: Counts) -> Counts {
+    let mut n = counts;
     n.columns = int_at(s, 0);
     n.seen = 0;
     n.clock = n.columns;
@@ -359,9 +378,9 @@ fn queued(
     offsets: &mut [i64; 9216],
     places: &mut [usize; 9216],
     time: Time,
-    night: Night,
-) -> Night {
-    let mut n = night;
+    counts: Counts,
+) -> Counts {
+    let mut n = counts;
     match duration::duration_of(time) {
         Duration::Micros(offset) => {
             if n.queue < 9216 {
@@ -383,9 +402,9 @@ fn train(
     offsets: &mut [i64; 9216],
     places: &mut [usize; 9216],
     r: ReadValue,
-    night: Night,
-) -> Night {
-    let mut n = night;
+    counts: Counts,
+) -> Counts {
+    let mut n = counts;
     match r {
         ReadValue::Done(g) => {
             let v = g.value;
@@ -409,8 +428,8 @@ fn train(
 }
 
 // A row's counts: every value must be there, or be NULL, and the row's bytes must all be used.
-fn counted(r: ReadRow, values: usize, len: usize, night: Night) -> Night {
-    let mut n = night;
+fn counted(r: ReadRow, values: usize, len: usize, counts: Counts) -> Counts {
+    let mut n = counts;
     n.rows = more(n.rows);
     n.values = std::num::wrapping_add_usize(n.values, values);
     match r {
@@ -430,6 +449,17 @@ fn counted(r: ReadRow, values: usize, len: usize, night: Night) -> Night {
     n
 }
 
+fn count_row(starts: &mut [usize], types: &[u8], signs: &[u8], s: &[u8], counts: Counts) -> Counts {
+    let r = row::read_row(
+        s,
+        part(types, 0, counts.columns),
+        part(signs, 0, counts.columns),
+        starts,
+    );
+    let values = values_in(s, types, signs, starts, counts.columns);
+    counted(r, values, s.len(), counts)
+}
+
 fn one_row(
     offsets: &mut [i64; 9216],
     places: &mut [usize; 9216],
@@ -437,16 +467,9 @@ fn one_row(
     types: &[u8],
     signs: &[u8],
     s: &[u8],
-    night: Night,
-) -> Night {
-    let r = row::read_row(
-        s,
-        part(types, 0, night.columns),
-        part(signs, 0, night.columns),
-        starts,
-    );
-    let values = values_in(s, types, signs, starts, night.columns);
-    let n = counted(r, values, s.len(), night);
+    counts: Counts,
+) -> Counts {
+    let n = count_row(starts, types, signs, s, counts);
     train(
         offsets,
         places,
@@ -465,13 +488,24 @@ fn is_end(s: &[u8]) -> bool {
     short(s, 0) == 0xFE
 }
 
-fn past_end(s: &[u8], phase: usize, night: Night) -> Night {
-    let mut n = night;
+fn past_end(s: &[u8], phase: usize, counts: Counts) -> Counts {
+    let mut n = counts;
     if !is_end(s) {
         n.wrong = more(n.wrong);
     }
     n.phase = phase;
     n
+}
+
+// A packet that comes before the rows, or that is only counted.
+fn take_other(types: &mut [u8], signs: &mut [u8], s: &[u8], counts: Counts) -> Counts {
+    let phase = counts.phase;
+    match phase {
+        1 => column_count(s, counts),
+        2 => column(types, signs, s, counts),
+        3 => past_end(s, ROW, counts),
+        _ => counts,
+    }
 }
 
 fn take_packet(
@@ -481,24 +515,17 @@ fn take_packet(
     types: &mut [u8],
     signs: &mut [u8],
     s: &[u8],
-    night: Night,
-) -> Night {
-    let mut n = night;
+    counts: Counts,
+) -> Counts {
+    let mut n = counts;
     n.packets = more(n.packets);
-    let phase = n.phase;
-    match phase {
-        1 => column_count(s, n),
-        2 => column(types, signs, s, n),
-        3 => past_end(s, ROW, n),
-        4 => {
-            if is_end(s) {
-                past_end(s, ANY, n)
-            } else {
-                one_row(offsets, places, starts, types, signs, s, n)
-            }
-        }
-        _ => n,
+    if n.phase != ROW {
+        return take_other(types, signs, s, n);
     }
+    if is_end(s) {
+        return past_end(s, ANY, n);
+    }
+    one_row(offsets, places, starts, types, signs, s, n)
 }
 
 // The next packet, by way of buffers that are cut to the limit: staging of twice the limit and four bytes more.
@@ -508,18 +535,18 @@ fn next_within(
     dst: &mut [u8],
     limit: usize,
     fd: i32,
-    night: Night,
-) -> Night
+    line: Line,
+) -> Line
     requires { ⌜ limit ≤ 66560 ⌝ }
 {
     let twice = 2 * limit + 4;
     if staging.len() < twice {
-        return night;
+        return line;
     }
     if dst.len() < limit {
-        return night;
+        return line;
     }
-    next_packet(room, &mut staging[..twice], &mut dst[..limit], fd, night)
+    next_packet(room, &mut staging[..twice], &mut dst[..limit], fd, line)
 }
 
 // Reads a packet and takes it.
@@ -535,26 +562,28 @@ fn step(
     fd: i32,
     night: Night,
 ) -> Night {
-    let n = next_within(
+    let line = next_within(
         room,
         staging,
         dst,
-        least(night.codec.limit, WIDE),
+        least(night.line.codec.limit, WIDE),
         fd,
-        night,
+        night.line,
     );
-    if n.answer != PACKET {
-        return n;
+    let counts = night.counts;
+    if line.answer != PACKET {
+        return Night { line, counts };
     }
-    take_packet(
+    let counts = take_packet(
         offsets,
         places,
         starts,
         types,
         signs,
-        part(dst, 0, n.len),
-        n,
-    )
+        part(dst, 0, line.len),
+        counts,
+    );
+    Night { line, counts }
 }
 
 // At most so many packets of the answer, and 20,000.
@@ -589,7 +618,7 @@ fn take_answer(
             fd,
             n,
         );
-        if n.answer != PACKET {
+        if n.line.answer != PACKET {
             return n;
         }
         k += 1;
@@ -599,25 +628,30 @@ fn take_answer(
 
 // ---- commands
 
-// Writes a command out of its payload; it must be the bytes that the client sent. A framed one has eleven bytes in front.
-fn send(out: &mut [u8], bytes: &[u8], night: Night) -> Night {
-    let mut n = night;
-    let head = if n.codec.framed { 11 } else { 4 };
-    let packet = part(bytes, head, std::num::wrapping_sub_usize(bytes.len(), head));
-    let e = codec::encode(n.codec, packet, out);
-    let next = e.next;
-    let put = e.put;
-    n.codec = next;
-    let right = match put {
+// Whether a writer put exactly these bytes.
+fn is_put(put: Put, out: &[u8], bytes: &[u8]) -> bool {
+    match put {
         Put::Next(m) => check::same(part(out, 0, m), bytes),
         Put::Refused(_) => false,
-    };
-    if !right {
-        n.wrong = more(n.wrong);
+    }
+}
+
+// Writes a command out of its payload; it must be the bytes that the client sent. A framed one has eleven bytes in front.
+fn send(out: &mut [u8], bytes: &[u8], night: Night) -> Night {
+    let mut line = night.line;
+    let mut counts = night.counts;
+    let head = if line.codec.framed { 11 } else { 4 };
+    let packet = part(bytes, head, std::num::wrapping_sub_usize(bytes.len(), head));
+    let e = codec::encode(line.codec, packet, out);
+    let next = e.next;
+    line.codec = next;
+    let put = e.put;
+    if !is_put(put, out, bytes) {
+        counts.wrong = more(counts.wrong);
     }
     // The answer to an execution has rows.
-    n.phase = if short(packet, 0) == 0x17 { COUNT } else { ANY };
-    n
+    counts.phase = if short(packet, 0) == 0x17 { COUNT } else { ANY };
+    Night { line, counts }
 }
 
 fn is_idle(codec: PacketCodec) -> bool {
@@ -638,41 +672,55 @@ fn is_idle(codec: PacketCodec) -> bool {
 
 // Before a command the numbers start at 0; behind the login frames are on.
 fn begun(left: usize, k: usize, night: Night) -> Night {
-    let mut n = night;
+    let mut line = night.line;
+    let counts = night.counts;
     let codec = if k == 1 {
-        codec::frames_on(n.codec)
+        codec::frames_on(line.codec)
     } else {
-        n.codec
+        line.codec
     };
     let next = codec::reset_seq_id(codec);
-    n.codec = next;
-    n.left = left;
-    n
+    line.codec = next;
+    line.left = left;
+    Night { line, counts }
 }
 
 // At its end nothing of an answer may be left over, unless it was refused.
-fn ended(night: Night) -> Night {
-    let mut n = night;
-    if n.answer == REFUSED {
+fn with_end(line: Line, counts: Counts) -> Counts {
+    let mut n = counts;
+    if line.answer == REFUSED {
         return n;
     }
     n.exchanges = more(n.exchanges);
-    if n.answer != MORE {
+    if line.answer != MORE {
         n.wrong = more(n.wrong);
     }
-    if n.left != 0 {
+    if line.left != 0 {
         n.wrong = more(n.wrong);
     }
-    if n.at != n.have {
+    if line.at != line.have {
         n.wrong = more(n.wrong);
     }
-    if !is_idle(n.codec) {
+    if !is_idle(line.codec) {
         n.wrong = more(n.wrong);
     }
     if n.phase != ANY {
         n.wrong = more(n.wrong);
     }
     n
+}
+
+fn ended(night: Night) -> Night {
+    let line = night.line;
+    let counts = with_end(line, night.counts);
+    Night { line, counts }
+}
+
+// Command k, as the client sent it.
+fn command<'a>(client: &'a [u8], index: &[u8], k: usize) -> &'a [u8]
+    requires { ⌜ k < 64 ⌝ }
+{
+    part(client, word(index, 4 + 12 * k), word(index, 8 + 12 * k))
 }
 
 // A command and its answer, unless something was refused before; at the login the server speaks first.
@@ -694,14 +742,13 @@ fn exchange(
 ) -> Night
     requires { ⌜ k < 64 ⌝ }
 {
-    if night.answer == REFUSED {
+    if night.line.answer == REFUSED {
         return night;
     }
-    let at = 4 + 12 * k;
-    let command = part(client, word(index, at), word(index, at + 4));
-    let n = begun(word(index, at + 8), k, night);
+    let bytes = command(client, index, k);
+    let mut n = begun(word(index, 12 + 12 * k), k, night);
     let hello = if k == 0 { 1 } else { 0 };
-    let n = take_answer(
+    n = take_answer(
         offsets,
         places,
         starts,
@@ -714,8 +761,8 @@ fn exchange(
         hello,
         n,
     );
-    let n = send(out, command, n);
-    let n = take_answer(
+    n = send(out, bytes, n);
+    n = take_answer(
         offsets,
         places,
         starts,
@@ -738,14 +785,19 @@ fn opened(limit: usize) -> PacketCodec {
     }
 }
 
-fn fresh(codec: PacketCodec) -> Night {
-    Night {
+fn fresh_line(codec: PacketCodec) -> Line {
+    Line {
         codec,
         at: 0,
         have: 0,
         left: 0,
         answer: 0,
         len: 0,
+    }
+}
+
+fn no_counts() -> Counts {
+    Counts {
         exchanges: 0,
         phase: 0,
         columns: 0,
@@ -758,6 +810,13 @@ fn fresh(codec: PacketCodec) -> Night {
         timeless: 0,
         queue: 0,
         wrong: 0,
+    }
+}
+
+fn fresh(limit: usize) -> Night {
+    Night {
+        line: fresh_line(opened(limit)),
+        counts: no_counts(),
     }
 }
 
@@ -778,7 +837,7 @@ fn load(
     many: usize,
     limit: usize,
 ) -> Night {
-    let mut n = fresh(opened(limit));
+    let mut n = fresh(limit);
     let mut k = 0;
     while k < 64 {
         if many <= k {
@@ -924,29 +983,49 @@ fn say_head(offsets: &[i64; 9216], places: &[usize; 9216], n: usize)
     }
 }
 
-fn say_night(offsets: &[i64; 9216], places: &[usize; 9216], night: Night) {
-    say(b"exchanges ", night.exchanges);
-    if night.answer == REFUSED {
-        say(b"then refused with ", night.len);
+// How far the load was read.
+fn say_read(line: Line, counts: Counts) {
+    say(b"exchanges ", counts.exchanges);
+    if line.answer == REFUSED {
+        say(b"then refused with ", line.len);
     }
-    say(b"packets of the server ", night.packets);
-    say(b"rows ", night.rows);
-    say(b"columns ", night.columns);
-    say(b"values ", night.values);
-    say(b"NULLs ", night.nulls);
-    say(b"trains with an offset ", night.queue);
-    say(b"trains whose offset is NULL ", night.timeless);
-    let n = least(night.queue, 9216);
-    let t = tally_of(offsets, n);
+    say(b"packets of the server ", counts.packets);
+    say(b"rows ", counts.rows);
+    say(b"columns ", counts.columns);
+}
+
+fn say_values(counts: Counts) {
+    say(b"values ", counts.values);
+    say(b"NULLs ", counts.nulls);
+    say(b"trains with an offset ", counts.queue);
+    say(b"trains whose offset is NULL ", counts.timeless);
+}
+
+fn say_offsets(t: Tally) {
     say_sum(b"sum of the offsets ", t.up, t.down);
     say_signed(b"least ", t.least);
     say_signed(b"greatest ", t.greatest);
+}
+
+fn say_order(t: Tally) {
     say(b"trains with a negative offset ", t.negative);
     say(b"trains at exactly -60000000 ", t.minute);
     say(b"  place of the last of them ", t.last_minute);
     say(b"place of the first train that is not negative ", t.first);
     say(b"trains out of order ", t.disorder);
-    say(b"things that are not as they should be ", night.wrong);
+}
+
+fn say_night(offsets: &[i64; 9216], places: &[usize; 9216], night: Night) {
+    say_read(night.line, night.counts);
+    say_values(night.counts);
+    let n = least(night.counts.queue, 9216);
+    let t = tally_of(offsets, n);
+    say_offsets(t);
+    say_order(t);
+    say(
+        b"things that are not as they should be ",
+        night.counts.wrong,
+    );
     io::write_all(STDOUT_FILENO, b"head of the queue\n");
     say_head(offsets, places, least(n, 20));
 }
@@ -962,11 +1041,8 @@ fn read_file(name: &[u8], buffer: &mut [u8]) -> usize {
     size
 }
 
-fn run(fd: i32, limit: usize) {
-    let mut client = io::buffer();
-    let sent = read_file(b"stored-eof-binary-rows.full.c2s.bin", &mut client);
-    let mut index = io::buffer();
-    let size = read_file(b"index", &mut index);
+// Reads the load at a limit, by the client's bytes and the index.
+fn run(fd: i32, limit: usize, client: &[u8], index: &[u8], many: usize) {
     let mut room = [0u8; 133120];
     let mut staging = [0u8; 133124];
     let mut dst = [0u8; 66560];
@@ -976,7 +1052,6 @@ fn run(fd: i32, limit: usize) {
     let mut starts = [0usize; 4096];
     let mut offsets = [0i64; 9216];
     let mut places = [0usize; 9216];
-    let many = word(&index, 0);
     let n = load(
         &mut offsets,
         &mut places,
@@ -988,13 +1063,27 @@ fn run(fd: i32, limit: usize) {
         &mut dst,
         &mut out,
         fd,
-        part(&client, 0, sent),
-        part(&index, 0, size),
+        client,
+        index,
         many,
         limit,
     );
     say(b"limit ", limit);
     say_night(&offsets, &places, n);
+}
+
+fn run_files(fd: i32, limit: usize) {
+    let mut client = io::buffer();
+    let sent = read_file(b"stored-eof-binary-rows.full.c2s.bin", &mut client);
+    let mut index = io::buffer();
+    let size = read_file(b"index", &mut index);
+    run(
+        fd,
+        limit,
+        part(&client, 0, sent),
+        part(&index, 0, size),
+        word(&index, 0),
+    );
 }
 
 fn read_night(limit: usize) {
@@ -1004,7 +1093,7 @@ fn read_night(limit: usize) {
         os::fail(name);
         return;
     }
-    run(fd, limit);
+    run_files(fd, limit);
     libc::close(fd);
 }
 

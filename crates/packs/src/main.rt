@@ -267,13 +267,19 @@ fn whole(rows: &[u32], overhead: u64, limit: u64) -> usize {
     judged(rows, overhead, limit, &[8192])
 }
 
-fn at_the_limit() {
+fn two_at_the_limit() {
     expect(b"two rows at the limit ", groups(&[3, 4], 2, 10), 1);
     expect(b"two rows one over ", groups(&[3, 4], 2, 9), 2);
     expect(b"two rows judged ", judged(&[3, 4], 2, 10, &[2]), 1);
     expect(b"two rows judged one over ", judged(&[3, 4], 2, 9, &[2]), 0);
+}
+
+fn one_at_the_limit() {
     expect(b"a row at the limit ", groups(&[5], 2, 7), 1);
     expect(b"a row one over ", groups(&[5], 2, 6), 100_016);
+}
+
+fn empty_at_the_limit() {
     expect(b"empty rows at the limit ", groups(&[0, 0, 0], 0, 2), 1);
     expect(b"empty rows one over ", groups(&[0, 0, 0], 0, 1), 2);
     expect(b"empty rows and no room ", groups(&[0, 0, 0], 0, 0), 3);
@@ -292,32 +298,46 @@ fn many(rows: &[u32], most: &[u32]) {
 // 8,192 rows of 2^32 - 1 bytes with the largest limit: together they take 2^45 - 1 bytes.
 fn tall(rows: &[u32]) {
     let exact = 0xFFFF_E000_0000_0000;
-    let alone = 0xFFFF_FFFF_0000_0000;
     expect(b"tall rows ", groups(rows, 0, TOP), 1);
     expect(b"tall rows exactly ", groups(rows, exact, TOP), 1);
     expect(b"tall one over ", groups(rows, exact + 1, TOP), 2);
     expect(b"tall rows judged ", whole(rows, exact, TOP), 1);
     expect(b"tall judged over ", whole(rows, exact + 1, TOP), 0);
+}
+
+// The same rows where there is room for one alone, and then for none.
+fn lonely(rows: &[u32]) {
+    let alone = 0xFFFF_FFFF_0000_0000;
     expect(b"each alone ", groups(rows, alone, TOP), 8192);
     expect(b"too long ", groups(rows, alone + 1, TOP), 100_016);
     expect(b"no room at all ", groups(rows, TOP, TOP), 100_016);
     expect(b"no room judged ", whole(rows, TOP, TOP), 0);
+    one_short(rows, alone, TOP, &mut [MARK; 8192], 8192);
 }
 
-fn main() {
+fn try_short() {
     let mut few = [0u32; 12];
     let mut ends = [0u64; 12];
-    let mut rows = [0u32; 8193];
     let sum = try_lists(650, &mut few, &mut ends, false);
     say(b"650 lists, all cuts of each: groups ", sum);
     let yes = try_lists(4000, &mut few, &mut ends, true);
     say(b"4000 odd proposals: accepted ", yes);
-    at_the_limit();
+}
+
+fn try_long() {
+    let mut rows = [0u32; 8193];
     fill(&mut rows, ONES);
     many(&rows, front(&rows, 8192));
     fill(&mut rows, TALL);
     tall(front(&rows, 8192));
-    let alone = 0xFFFF_FFFF_0000_0000;
-    one_short(front(&rows, 8192), alone, TOP, &mut [MARK; 8192], 8192);
+    lonely(front(&rows, 8192));
+}
+
+fn main() {
+    try_short();
+    two_at_the_limit();
+    one_at_the_limit();
+    empty_at_the_limit();
+    try_long();
     say(b"edges: ", 25);
 }

@@ -241,13 +241,21 @@ fn line(name: &[u8], n: usize) {
     io::write_all(1, b"\n");
 }
 
-fn replay(s: &[u8]) {
+fn say_session(s: &[u8]) {
     line(b"  variables        ", count_of(s, 0, 0));
     line(b"  schema           ", count_of(s, 1, 1));
     line(b"  tracked          ", count_of(s, 2, 2));
     line(b"  gtids            ", count_of(s, 3, 3));
+}
+
+fn say_transactions(s: &[u8]) {
     line(b"  characteristics  ", count_of(s, 4, 4));
     line(b"  state            ", count_of(s, 5, 5));
+}
+
+fn replay(s: &[u8]) {
+    say_session(s);
+    say_transactions(s);
     line(b"  unsupported      ", count_of(s, 6, 255));
     line(b"  differences      ", differences(s));
 }
@@ -261,7 +269,7 @@ fn replay_file(path: &[u8]) {
     }
     let n = io::read_full(fd, &mut buf);
     libc::close(fd);
-    replay(&buf[..n]);
+    replay(wire::part(&buf, 0, n));
 }
 
 fn main() {

@@ -384,6 +384,42 @@ fn say_count(what: &[u8], counts: &[usize], i: usize) {
     }
 }
 
+fn say_integers(counts: &[usize]) {
+    say_count(b"integers from 0 on ", counts, 1);
+    say_count(b"integers below 0 ", counts, 2);
+    say_count(b"unsigned integers above any i64 ", counts, 3);
+}
+
+fn say_others(counts: &[usize]) {
+    say_count(b"strings ", counts, 4);
+    say_count(b"f32 ", counts, 5);
+    say_count(b"f64 ", counts, 6);
+    say_count(b"dates ", counts, 7);
+    say_count(b"times ", counts, 8);
+}
+
+fn say_counts(counts: &[usize]) {
+    say_count(b"rows ", counts, ROWS);
+    say_count(b"columns ", counts, COLUMNS);
+    say_count(b"NULL ", counts, 0);
+    say_integers(counts);
+    say_others(counts);
+    say_count(
+        b"rows cut short, refused with 8 and the list unchanged ",
+        counts,
+        CUTS,
+    );
+    say_count(b"differences ", counts, DIFFERENCES);
+}
+
+fn run(file: &[u8]) {
+    // Four places more than a row has columns: they must stay.
+    let mut list = [0usize; 40];
+    let mut counts = [0usize; 13];
+    check_rows(file, word(file, 0), &mut list, &mut counts);
+    say_counts(&counts);
+}
+
 fn main() {
     let fd = os::open_read(b"rows");
     if fd < 0 {
@@ -392,28 +428,5 @@ fn main() {
     }
     let mut buffer = io::large_buffer();
     let size = io::read_full(fd, &mut buffer);
-    let file = &buffer[..size];
-    // Four places more than a row has columns: they must stay.
-    let mut space = [0usize; 40];
-    let list: &mut [usize] = &mut space;
-    let mut tally = [0usize; 13];
-    let counts: &mut [usize] = &mut tally;
-    check_rows(file, word(file, 0), list, counts);
-    say_count(b"rows ", counts, ROWS);
-    say_count(b"columns ", counts, COLUMNS);
-    say_count(b"NULL ", counts, 0);
-    say_count(b"integers from 0 on ", counts, 1);
-    say_count(b"integers below 0 ", counts, 2);
-    say_count(b"unsigned integers above any i64 ", counts, 3);
-    say_count(b"strings ", counts, 4);
-    say_count(b"f32 ", counts, 5);
-    say_count(b"f64 ", counts, 6);
-    say_count(b"dates ", counts, 7);
-    say_count(b"times ", counts, 8);
-    say_count(
-        b"rows cut short, refused with 8 and the list unchanged ",
-        counts,
-        CUTS,
-    );
-    say_count(b"differences ", counts, DIFFERENCES);
+    run(wire::part(&buffer, 0, size));
 }

@@ -6,7 +6,6 @@ use Rattle.night.proofs.load.Reads as reads
 use Rattle.night.proofs.load.Lts as lts
 use Rattle.night.proofs.exchange.Reads as exchange-reads
 use Rattle.night.proofs.fresh.Reads as fresh-reads
-use Rattle.night.proofs.opened.Reads as opened-reads
 
 abbrev Inv-loop : tie.InvT-loop
 Inv-loop os₀ ps₀ starts₀ types₀ signs₀ room₀ staging₀ dst₀ out₀ fd client index many limit n₀ k₀ os ps starts types signs room staging dst out n k =
@@ -15,9 +14,6 @@ Inv-loop os₀ ps₀ starts₀ types₀ signs₀ room₀ staging₀ dst₀ out�
 abbrev μ-loop : tie.MeasureT-loop
 μ-loop os₀ ps₀ starts₀ types₀ signs₀ room₀ staging₀ dst₀ out₀ fd client index many limit n₀ k₀ os ps starts types signs room staging dst out n k =
     64 - k
-
-opened-requires : tie.Need-opened-requires Inv-loop μ-loop
-opened-requires c κs = search needs
 
 fresh-requires : tie.Need-fresh-requires Inv-loop μ-loop
 fresh-requires c κs = search needs
@@ -49,7 +45,6 @@ load-spec =
     (tie.spec
     Inv-loop
     μ-loop
-    opened-requires
     fresh-requires
     loop-holds
     returns
