@@ -61,8 +61,8 @@ def edits_of(path):
 
 def sample(room, seed, most):
     crate = edits.ROOT / 'crates' / room
-    found = [(room, str(path.relative_to(crate)), [(str(path.relative_to(crate)), old, new)])
-             for path in sorted((crate / 'src').rglob('*.rt')) for old, new in edits_of(path)]
+    files = [str(path.relative_to(crate)) for path in sorted((crate / 'src').rglob('*.rt'))]
+    found = [edits.Try(room, file, [(file, old, new)]) for file in files for old, new in edits_of(crate / file)]
     if most is None:
         return found, len(found)
     return random.Random(f'{seed} {room}').sample(found, min(most, len(found))), len(found)
@@ -82,10 +82,10 @@ def main():
         if not chosen:
             continue
         count, shown = collections.Counter(), []
-        for (_, path, [(_, old, new)]), word in edits.words(chosen, args.jobs):
+        for (_, file, [(_, old, new)]), word in edits.words(chosen, args.jobs):
             count[word.said] += 1
             if word.said == edits.SURVIVED:
-                shown.append(f'    {path}: `{old.splitlines()[-1].strip()}` -> `{new.splitlines()[-1].strip()}`')
+                shown.append(f'    {file}: `{old.splitlines()[-1].strip()}` -> `{new.splitlines()[-1].strip()}`')
         print(f'{room}: {len(chosen)} of {of}: {count[edits.REFUSED]} refused at a fact, {count[edits.SHAPE]} at the shape, {count[edits.BAD]} no programs, '
               f'{count[edits.SURVIVED]} survive', *shown, sep='\n', file=out, flush=True)
 
