@@ -15,7 +15,7 @@ use Rattle.wire.specs.Room.{patch}
 use Rattle.wire.specs.RoomLaws.{patch-append, patch-again, patch-cons, patch-one, patch-two, length-patch}
 use Rattle.escape.specs.Quote.{quote, behind, becomes, body, quoted}
 use Rattle.escape.specs.QuoteLaws.{secondOf, moreOf, mores, body-length, becomes-itself, becomes-two}
-use Rattle.escape.specs.Turns.{markOf, Marks, Slots, Clean, Leads, Leading}
+use Rattle.escape.specs.Turns.{markOf, Marks, Slots, Leads, Leading}
 use Rattle.wire.specs.TableLaws.{every, every-at, tells, told-at}
 
 -- ---- which bytes become two, as a sum of comparisons
@@ -228,19 +228,29 @@ pub clean-on : (m : Bool) (s : List ℕ) (i k : ℕ) → mores m (take i s) ≡ 
 clean-on m s i k p q = ap (mores m) (take-add i k s) ∙ omega (arith, p, q, mores-append m (take i s) (take k (drop i s)))
 
 -- parts that cover all
-pub clean-all : (m : Bool) (s : List ℕ) (i j k : ℕ) → j ≤ i → length s ≤ j + k → mores m (take i s) ≡ 0 → mores m (take k (drop j s)) ≡ 0 → mores m s ≡ 0
+clean-all : (m : Bool) (s : List ℕ) (i j k : ℕ) → j ≤ i → length s ≤ j + k → mores m (take i s) ≡ 0 → mores m (take k (drop j s)) ≡ 0 → mores m s ≡ 0
 clean-all m s i j k h l p q =
     let rest : mores m (drop j s) ≡ 0 = ap (mores m) (sym (take-all k (drop j s) (omega (arith, length-drop j s)))) ∙ q in
     let front : mores m s ≡ mores m (take i s) + mores m (drop i s) = ap (mores m) (sym (take-append-drop i s)) ∙ mores-append m (take i s) (drop i s) in
     let sum : j + (i - j) ≡ i = omega arith in
     omega (arith, p, rest, front, rw sum at (mores-part m s j (i - j)))
 
--- the word on them: a no tells nothing, and a yes comes of a count that is 0
-pub clean-no : (m : Bool) (s : List ℕ) → Clean m s false
-clean-no m s = record { none = λ e. absurd (let y : _≡_ {A = ℕ} 0 1 = cc in omega arith) }
+-- a part of bytes that have none has none
+clean-part : (m : Bool) (s : List ℕ) (i k : ℕ) → mores m s ≡ 0 → mores m (take k (drop i s)) ≡ 0
+clean-part m s i k e =
+    let front : mores m s ≡ mores m (take i s) + mores m (drop i s) = ap (mores m) (sym (take-append-drop i s)) ∙ mores-append m (take i s) (drop i s) in
+    omega (arith, e, front, mores-part m s i k)
 
-pub clean-by : (m : Bool) (s : List ℕ) (n : ℕ) → (n ≡ 0 → mores m s ≡ 0) → Clean m s (eqb n 0)
-clean-by m s n f = record { none = λ e. f (eqb-true n 0 e) }
+-- the word on them: no by a part that has some, and by the last part whatever it has
+pub clean-no : (m : Bool) (s : List ℕ) (i k n : ℕ) → n ≡ mores m (take k (drop i s)) → (n ≡ 0 → ⊥) → false ≡ eqb (mores m s) 0
+clean-no m s i k n e a = sym (ne-eqb (mores m s) 0 (λ z. a (e ∙ clean-part m s i k z)))
+
+pub clean-last : (m : Bool) (s : List ℕ) (i j k n : ℕ) → j ≤ i → length s ≤ j + k → mores m (take i s) ≡ 0 → n ≡ mores m (take k (drop j s))
+    → eqb n 0 ≡ eqb (mores m s) 0
+clean-last m s i j k n h l p e = elim (ℕ-discrete n 0) [
+  | yes z ↦ eq-eqb n 0 z ∙ sym (eq-eqb (mores m s) 0 (clean-all m s i j k h l p (sym e ∙ z)))
+  | no a ↦ ne-eqb n 0 a ∙ clean-no m s j k n e a
+]
 
 -- one byte further
 pub mores-step : (m : Bool) (s : List ℕ) (i j : ℕ) → i + j < length s

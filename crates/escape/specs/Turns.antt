@@ -1,13 +1,12 @@
 -- What the writers of the quoted form promise each other: what bytes become stands at a place, and something has to follow.
 use Prim.Native.Nat.{ℕ, _+_, _-_, _%_, _≤_, _<_}
 use mathlib.Core.Path.{_≡_}
-use mathlib.Core.Bool.{Bool, true, cond}
+use mathlib.Core.Bool.{Bool, cond}
 use mathlib.Core.List.{List, _++_}
 use lib.ListN.{length, take, drop, getD}
 use lib.Dec.{eqb}
 use Rattle.wire.specs.Room.{patch}
 use Rattle.escape.specs.Quote.{behind, body}
-use Rattle.escape.specs.QuoteLaws.{mores}
 use Rattle.escape.specs.declared.Step.{Step}
 
 -- ---- lists to look up what stands behind the backslash
@@ -26,12 +25,6 @@ pub record Slots (l : List ℕ) : Type 0 where
   pub long : length l ≡ 64
   pub listed : (b : ℕ) → (behind b ≡ 0 → ⊥) → (getD l (b % 32) 0 ≡ b) × (getD l (b % 32 + 32) 0 ≡ behind b)
   pub unlisted : (b : ℕ) → behind b ≡ 0 → getD l (b % 32) 0 ≡ b → ⊥
-
--- ---- looking ahead
-
--- the word on bytes: where it is yes, none of them becomes two
-pub record Clean (m : Bool) (bs : List ℕ) (r : Bool) : Type 0 where
-  pub none : r ≡ true → mores m bs ≡ 0
 
 -- ---- writing
 

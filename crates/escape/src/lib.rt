@@ -15,7 +15,7 @@ ghost use lib.Dec.{leb, eqb};
 ghost use mathlib.Core.Bool.{true, false, cond};
 ghost use Rattle.escape.specs.Quote.{quoted, behind, body};
 ghost use Rattle.escape.specs.QuoteLaws.{firstOf, secondOf, moreOf, mores};
-ghost use Rattle.escape.specs.Turns.{Slots, Marks, Clean, Leading, Came};
+ghost use Rattle.escape.specs.Turns.{Slots, Marks, Leading, Came};
 ghost use Rattle.wire.specs.Room.{Wrote, patch, lengthOf, neededSaid};
 
 // What stands behind the backslash, for each byte, and a point where it stands for itself.
@@ -116,7 +116,7 @@ fn mores_in(input: &[u8], i: usize, k: usize, no_backslash_escape: bool) -> u8
 // Whether no byte becomes two, by parts of k, each one test; the last may overlap the one before it.
 fn clean_by(input: &[u8], k: usize, no_backslash_escape: bool) -> bool
     requires { ⌜ (0 < k) × (k ≤ 64) × (k ≤ length (now input)) ⌝ }
-    ensures { λ r. ⌜ Clean «no_backslash_escape» (now (input .entry)) r ⌝ }
+    ensures { λ r. ⌜ r ≡ eqb (mores «no_backslash_escape» (now (input .entry))) 0 ⌝ }
 {
     let n = input.len();
     let mut i = 0;
@@ -132,7 +132,7 @@ fn clean_by(input: &[u8], k: usize, no_backslash_escape: bool) -> bool
 // The same, by parts as wide as the input allows.
 fn clean(input: &[u8], no_backslash_escape: bool) -> bool
     requires { ⌜ 8 ≤ length (now input) ⌝ }
-    ensures { λ r. ⌜ Clean «no_backslash_escape» (now (input .entry)) r ⌝ }
+    ensures { λ r. ⌜ r ≡ eqb (mores «no_backslash_escape» (now (input .entry))) 0 ⌝ }
 {
     if input.len() < 16 {
         return clean_by(input, 8, no_backslash_escape);

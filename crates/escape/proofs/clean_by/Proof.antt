@@ -1,4 +1,4 @@
-use Rattle.escape.proofs.PutLaws.{clean-on, clean-all, clean-no, clean-by}
+use Rattle.escape.proofs.PutLaws.{clean-on, clean-no, clean-last}
 use Rattle.escape.specs.QuoteLaws.{mores}
 use lib.ListN.{length, take}
 use mathlib.Core.Path.{_≡_, refl, sym, _∙_}
@@ -28,7 +28,9 @@ mores-in-requires : tie.Need-mores-in-requires Inv-loop μ-loop
 mores-in-requires c κs = search needs
 
 returns : tie.Need-returns Inv-loop μ-loop
-returns c = let a = c .before .before .before .before .before .args in clean-no (a .no-backslash-escape) (a .input .now)
+returns c =
+    let a = c .before .before .before .before .before .args in
+    clean-no (a .no-backslash-escape) (a .input .now) (c .before .before .before .loop .i) (a .k) _ (c .before .mores-in .ensures) (c .if1 .taken)
 
 add-i : tie.Need-add-i Inv-loop μ-loop
 add-i c = search needs
@@ -53,8 +55,7 @@ returns-2 c =
     let a = c .before .before .before .before .args in
     let s = a .input .now in
     let l = c .before .before .loop in
-    clean-by (a .no-backslash-escape) s _ (λ z.
-    clean-all (a .no-backslash-escape) s (l .i) (length s - a .k) (a .k) (omega arith) (omega arith) (l .inv .1) (sym (c .mores-in2 .ensures) ∙ z))
+    clean-last (a .no-backslash-escape) s (l .i) (length s - a .k) (a .k) _ (omega arith) (omega arith) (l .inv .1) (c .mores-in2 .ensures)
 
 pub clean-by-spec : {M : Type 1} → statement M
 clean-by-spec =

@@ -1,7 +1,8 @@
 use Rattle.escape.proofs.PutLaws.{leading-copy}
 use Rattle.escape.specs.QuoteLaws.{body-length}
 use mathlib.Core.Bool.{false}
-use mathlib.Core.Path.{refl}
+use mathlib.Core.Path.{refl, sym, _∙_}
+use borrow.Author.Tests.{eqb-true}
 use native.Mathlib.Omega.{arith}
 use borrow.Author.Needs.{needs}
 use Rattle.escape.proofs.put_short.Statement.{statement}
@@ -29,7 +30,7 @@ same-length c = search needs
 returns : tie.Need-returns
 returns c =
     let a = c .before .before .before .before .before .before .before .before .before .args in
-    let clean = c .before .before .before .before .before .clean .ensures .none (c .before .before .before .before .if2 .taken) in
+    let clean = eqb-true _ 0 (sym (c .before .before .before .before .before .clean .ensures) ∙ c .before .before .before .before .if2 .taken) in
     leading-copy false (a .input .now) (a .dst .now) (a .at) _ clean refl (c .before .before .copy .ensures)
 
 put-marked-requires : tie.Need-put-marked-requires
