@@ -13,7 +13,6 @@ literals=${LITERALS:-build/asan/tests/literals}
 [ -x "$literals" ] || { echo "live: no test of literals: run make asan first"; exit 1; }
 
 say() { echo "live: $*"; }
-have() { command -v "$1" > /dev/null 2>&1; }
 PATH=$PATH:/usr/sbin:/sbin
 export PATH
 
