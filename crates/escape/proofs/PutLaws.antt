@@ -1,5 +1,5 @@
 -- What the writers lean on: which bytes become two, what they become in parts, and bytes that lead.
-use Prim.Native.Nat.{ℕ, _+_, _-_, _%_, _≤_, _<_}
+use Prim.Native.Nat.{ℕ, suc, _+_, _-_, _%_, _≤_, _<_}
 use mathlib.Core.Path.{_≡_, refl, sym, ap, _∙_}
 use mathlib.Core.Bool.{Bool, true, false, cond}
 use mathlib.Core.List.{List, [], _∷_, _++_, append-assoc, append-nil}
@@ -264,12 +264,20 @@ mores-step m s i j h =
     ap (mores m) e ∙ omega (arith, mores-append m (take j (drop i s)) one)
 
 -- what comes behind the first i bytes
-pub body-room : (m : Bool) (s : List ℕ) (i : ℕ) → i < length s → length (body m (take i s)) + 1 ≤ length (body m s)
-body-room m s i h =
-    let n : length (body m s) ≡ length (body m (take i s)) + length (body m (drop i s)) =
+body-split : (m : Bool) (s : List ℕ) (i : ℕ) → length (body m s) ≡ length (body m (take i s)) + length (body m (drop i s))
+body-split m s i =
     ap (λ (x : List ℕ). length (body m x)) (sym (take-append-drop i s)) ∙ ap length (body-append m (take i s) (drop i s))
-    ∙ length-append (body m (take i s)) (body m (drop i s)) in
-    omega (arith, n, body-length m (drop i s), length-drop i s)
+    ∙ length-append (body m (take i s)) (body m (drop i s))
+
+pub body-room : (m : Bool) (s : List ℕ) (i : ℕ) → i < length s → length (body m (take i s)) + 1 ≤ length (body m s)
+body-room m s i h = omega (arith, body-split m s i, body-length m (drop i s), length-drop i s)
+
+pub body-byte : (m : Bool) (s : List ℕ) (i : ℕ) → i < length s → length (body m (take i s)) + length (becomes m (getD s i 0)) ≤ length (body m s)
+unfolding body
+body-byte m s i h =
+    let d : length (body m (drop i s)) ≡ length (becomes m (getD s i 0)) + length (body m (drop (suc i) s)) =
+    ap (λ (x : List ℕ). length (body m x)) (drop-cons s i 0 h) ∙ length-append (becomes m (getD s i 0)) (body m (drop (suc i) s)) in
+    omega (arith, body-split m s i, d)
 
 -- bytes of which none becomes two
 pub body-clean : (m : Bool) (bs : List ℕ) → mores m bs ≡ 0 → body m bs ≡ bs

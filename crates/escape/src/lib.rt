@@ -13,7 +13,7 @@ ghost use mathlib.Core.List.{[], _∷_};
 ghost use lib.ListN.{length, take, drop};
 ghost use lib.Dec.{leb, eqb};
 ghost use mathlib.Core.Bool.{true, false, cond};
-ghost use Rattle.escape.specs.Quote.{quoted, behind, body};
+ghost use Rattle.escape.specs.Quote.{quoted, behind, becomes, body};
 ghost use Rattle.escape.specs.QuoteLaws.{firstOf, secondOf, moreOf, mores};
 ghost use Rattle.escape.specs.Turns.{Slots, Marks, Leading, Came};
 ghost use Rattle.wire.specs.Room.{Wrote, patch, lengthOf, neededSaid};
@@ -176,7 +176,7 @@ pub fn escaped_len(input: &[u8], no_backslash_escape: bool) -> Needed
 
 // What one byte becomes, and the place behind it, by branches.
 fn put_byte(dst: &mut [u8], at: usize, b: u8, no_backslash_escape: bool) -> usize
-    requires { ⌜ at + 2 ≤ length (now dst) ⌝ }
+    requires { ⌜ (at + 2 ≤ length (now dst)) × (at + length (becomes «no_backslash_escape» b) + 1 ≤ length (now dst)) ⌝ }
     ensures { λ r. ⌜ Leading «no_backslash_escape» (b ∷ []) (now (dst .entry)) at r (now (dst .exit)) ⌝ }
 {
     let second = second_of(b, no_backslash_escape);
@@ -227,7 +227,7 @@ fn count_of(b: u8, key: u8) -> usize
 // What a byte becomes with a backslash or without, and the place behind it. Both bytes are written always: branches would be guessed
 // wrong time and again. If it is one byte only, the second place is written again by what follows, at least the closing quote.
 fn put_escape(dst: &mut [u8], at: usize, b: u8, marks: &[u8]) -> usize
-    requires { ⌜ (at + 2 ≤ length (now dst)) × Slots (now marks) ⌝ }
+    requires { ⌜ (at + 2 ≤ length (now dst)) × Slots (now marks) × (at + length (becomes false b) + 1 ≤ length (now dst)) ⌝ }
     ensures { λ r. ⌜ Leading false (b ∷ []) (now (dst .entry)) at r (now (dst .exit)) ⌝ }
 {
     let i = slot(b);
@@ -267,7 +267,7 @@ fn count_by(mark: u8) -> usize
 }
 
 fn put_listed(dst: &mut [u8], at: usize, b: u8, all: &[u8]) -> usize
-    requires { ⌜ (at + 2 ≤ length (now dst)) × Marks (now all) ⌝ }
+    requires { ⌜ (at + 2 ≤ length (now dst)) × Marks (now all) × (at + length (becomes false b) + 1 ≤ length (now dst)) ⌝ }
     ensures { λ r. ⌜ Leading false (b ∷ []) (now (dst .entry)) at r (now (dst .exit)) ⌝ }
 {
     let mark = all[b as usize];
@@ -291,7 +291,7 @@ fn put_long(dst: &mut [u8], at: usize, src: &[u8], all: &[u8]) -> usize
 
 // What a byte becomes where only the quote is doubled, and the place behind it.
 fn put_double(dst: &mut [u8], at: usize, b: u8) -> usize
-    requires { ⌜ at + 2 ≤ length (now dst) ⌝ }
+    requires { ⌜ (at + 2 ≤ length (now dst)) × (at + length (becomes true b) + 1 ≤ length (now dst)) ⌝ }
     ensures { λ r. ⌜ Leading true (b ∷ []) (now (dst .entry)) at r (now (dst .exit)) ⌝ }
 {
     dst[at] = b;

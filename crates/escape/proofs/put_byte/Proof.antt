@@ -58,7 +58,7 @@ returns-2 c =
     let second = c .before .before .second-of in
     let two = becomes-two (a .no-backslash-escape) (a .b) (λ e. c .before .if1 .left (second .ensures ∙ e)) in
     rw (first .ensures, second .ensures) (leading-one (a .no-backslash-escape) (a .b) two refl
-    (leads-put _ (a .dst .now) (a .at) (patch-two (a .dst .now) (a .at) _ _ (p .pre))))
+    (leads-put _ (a .dst .now) (a .at) (patch-two (a .dst .now) (a .at) _ _ (p .pre .0))))
 
 pub put-byte-spec : {M : Type 1} → statement M
 put-byte-spec =

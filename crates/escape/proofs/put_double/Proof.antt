@@ -30,7 +30,7 @@ returns : tie.Need-returns
 returns c =
     let a = c .before .args in
     leading-one true (a .b) (double-two (a .b) (c .if1 .taken)) refl
-    (leads-put (a .b ∷ a .b ∷ []) (a .dst .now) (a .at) (patch-two (a .dst .now) (a .at) (a .b) (a .b) (c .before .pre)))
+    (leads-put (a .b ∷ a .b ∷ []) (a .dst .now) (a .at) (patch-two (a .dst .now) (a .at) (a .b) (a .b) (c .before .pre .0)))
 
 add-result-2 : tie.Need-add-result-2
 add-result-2 c = search needs

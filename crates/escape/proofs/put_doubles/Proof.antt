@@ -1,4 +1,4 @@
-use Rattle.escape.proofs.PutLaws.{body-room, leading-none, leading-byte, leading-all}
+use Rattle.escape.proofs.PutLaws.{body-room, body-byte, leading-none, leading-byte, leading-all}
 use Rattle.escape.specs.Turns.{Leading}
 use mathlib.Core.Bool.{true}
 use lib.ListN.{length, take}
@@ -30,8 +30,10 @@ shared-slice-read-put-double c = search needs
 put-double-requires : tie.Need-put-double-requires Inv-loop μ-loop
 put-double-requires c κs =
     let a = c .before .before .before .before .before .before .args in
-    let l = c .before .before .before .loop in
-    omega (arith, l .inv .1 .place, l .inv .2, body-room true (a .src .now) (l .i) (omega arith))
+    let l = c .before .before .before .loop in (
+      omega (arith, l .inv .1 .place, l .inv .2, body-room true (a .src .now) (l .i) (omega arith)),
+      omega (arith, l .inv .1 .place, l .inv .2, body-byte true (a .src .now) (l .i) (omega arith)),
+    )
 
 add-i : tie.Need-add-i Inv-loop μ-loop
 add-i c = search needs

@@ -1,4 +1,4 @@
-use Rattle.escape.proofs.PutLaws.{body-room, leading-none, leading-byte, leading-all}
+use Rattle.escape.proofs.PutLaws.{body-room, body-byte, leading-none, leading-byte, leading-all}
 use Rattle.escape.specs.Turns.{Leading}
 use lib.ListN.{length, take}
 use mathlib.Core.Path.{_≡_, refl, _∙_}
@@ -29,8 +29,10 @@ shared-slice-read-put-byte c = search needs
 put-byte-requires : tie.Need-put-byte-requires Inv-loop μ-loop
 put-byte-requires c κs =
     let a = c .before .before .before .before .before .before .args in
-    let l = c .before .before .before .loop in
-    omega (arith, l .inv .1 .place, l .inv .2, body-room (a .no-backslash-escape) (a .src .now) (l .i) (omega arith))
+    let l = c .before .before .before .loop in (
+      omega (arith, l .inv .1 .place, l .inv .2, body-room (a .no-backslash-escape) (a .src .now) (l .i) (omega arith)),
+      omega (arith, l .inv .1 .place, l .inv .2, body-byte (a .no-backslash-escape) (a .src .now) (l .i) (omega arith)),
+    )
 
 add-i : tie.Need-add-i Inv-loop μ-loop
 add-i c = search needs
