@@ -3,6 +3,8 @@
 // A packet is lent whole, and what is not a number is answered as a part of it, place and length. The session records of an OK
 // packet are such a part too: a cursor walks it, and hands each record on, to the reader of room `session`, as a part that starts
 // where the record's bytes do.
+#![tactic(auto)]
+
 ghost use Rattle.std.specs.Prelude.{◌≡◌, ◌+◌, ◌≤◌, length};
 ghost use Rattle.wire.specs.Le.{le_at};
 ghost use Rattle.wire.specs.Room.{Wrote};

@@ -2,6 +2,8 @@
 // laid out, and which few fields are not its own word), each line against the answer of the room's function. A line's fields
 // before the first that is expected are what the call is given. Buffers for bytes that are written are lent as long as what is
 // wanted, those of a connection as long as its limit asks for.
+#![tactic(auto)]
+
 ghost use Rattle.std.specs.Prelude.{◌<◌, ◌≤◌};
 
 use codec::{Got, Opened};

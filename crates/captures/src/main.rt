@@ -1,6 +1,8 @@
 // The report of a damaged capture of plain chunks. Standard input is the capture, of which at most 65,536 bytes are read. Each
 // line of standard output is a stretch, its fields parted by tabs: `good`, offset, bytes, packets; or `lost`, offset, bytes, and
 // the number of the refusal that began it. Of a longer capture the first 65,536 bytes are reported, and standard error says so.
+#![tactic(auto)]
+
 use libc::{STDERR_FILENO, STDOUT_FILENO};
 use salvage::Salvaged;
 

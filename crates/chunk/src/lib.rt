@@ -5,6 +5,8 @@
 // the front of the unread bytes and copies their payloads into the packet buffer, until a packet is whole, more bytes are
 // needed or a chunk is refused; the caller then drops the bytes used, and lends the same buffer until the packet is whole.
 // `packet_to_chunks` writes a packet's chunks to the front of a lent buffer. One number serves both ways.
+#![tactic(auto)]
+
 ghost use Rattle.std.specs.Prelude.{◌≡◌};
 ghost use Rattle.chunk.specs.Chunks.{largest};
 ghost use Rattle.chunk.specs.Read.{opening, opened_said, done_of, read, renumbered};

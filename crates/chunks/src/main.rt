@@ -2,6 +2,8 @@
 // and the buffer that a codec written from the paper gives (host/data/chunks.py, which also says how the file is laid out).
 // Then 300 packets from one end to another, over the wrap from 255 to 0. Then real connections, as captured: each command is
 // written and must be the bytes that the client sent, and each answer of the server is read to its end, by one codec.
+#![tactic(auto)]
+
 ghost use Rattle.std.specs.Prelude.{◌<◌, ◌≤◌};
 
 use chunk::{Answer, Decoded, Encoded, Opened, PlainPacketCodec, Tolerance};

@@ -7,6 +7,8 @@
 // limit bytes of packet buffer there is always room. With frames off it is ignored, and may be empty.
 //
 // Each entry takes the codec by value and gives it back. Those of `lent`, which end in `_in`, do the same to a codec that is lent.
+#![tactic(auto)]
+
 ghost use Rattle.std.specs.Prelude.{◌≡◌};
 ghost use Rattle.chunk.specs.Read.{answer_said};
 ghost use Rattle.frame.specs.Codec.{renumbered};

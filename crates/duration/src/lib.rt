@@ -3,6 +3,8 @@
 // The TIME value is that of mysql_common's value/mod.rs (`Value::Time`, "is negative, days, hours, minutes, seconds, micro
 // seconds"); the duration is ours. A train that leaves a minute before midnight has the offset -60,000,000: the size is
 // bounded first and negated then, and is never cast.
+#![tactic(auto)]
+
 ghost use Rattle.std.specs.Prelude.{◌≡◌, ◌≤◌, nat_abs};
 ghost use Rattle.refusal.specs.Said.{gives};
 ghost use Rattle.duration.specs.Time.{time_of, time_at, time_said};

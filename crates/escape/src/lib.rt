@@ -3,6 +3,8 @@
 // `escaped_len` answers how many bytes the quoted form takes, and `escaped` writes it into a lent buffer at a place: all
 // of it, or nothing and 6 (no room). It works byte by byte, so backslash mode is safe in character sets in which no byte
 // of a longer character is 0x5C, 0x27 or 0x22: utf8mb4, latin1, ascii and binary are; gbk, sjis and big5 are not.
+#![tactic(auto)]
+
 ghost use Rattle.std.specs.Prelude.{◌≡◌, ◌+◌, ◌%◌, ◌≤◌, ◌<◌, [], ◌∷◌, length, take, drop, leb, eqb, true, false, cond};
 ghost use Rattle.escape.specs.Quote.{quoted, behind, becomes, body};
 ghost use Rattle.escape.specs.QuoteLaws.{first_of, second_of, more_of, mores};

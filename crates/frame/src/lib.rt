@@ -3,6 +3,8 @@
 //
 // The codec's state goes in by value and comes back; bytes are lent. The unread chunk bytes stand at the front of a staging buffer,
 // which the caller keeps and lends at each call: `unread` says how many. What stands behind them is nobody's.
+#![tactic(auto)]
+
 ghost use Rattle.std.specs.Prelude.{◌≡◌, ◌<◌, true, length};
 ghost use Rattle.chunk.specs.Chunks.{largest};
 ghost use Rattle.frame.specs.Read.{done_of, read_framed};

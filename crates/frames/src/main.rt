@@ -1,6 +1,8 @@
 // One codec at work, with frames off and on. First a fixed list of operations, each against the answer, the bytes used, the lent
 // buffers and the whole state that a codec written from the paper gives (host/data/frames.py, which also says how the file is laid
 // out). Then a million frames with nothing in them, read in one call.
+#![tactic(auto)]
+
 ghost use Rattle.std.specs.Prelude.{◌<◌, ◌≤◌};
 
 use codec::{Got, Opened};

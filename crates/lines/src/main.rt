@@ -1,6 +1,8 @@
 // Demand 3 at work: sixteen thousand lines that lose, repeat and move chunks, each against what the paper says. A line is made
 // out of its number alone, by a small generator: the packets, the number to start with, what arrives and how it is cut. Every
 // packet is one chunk here. Anything that differs is printed; the counts are reckoned apart in host/data/lines.py.
+#![tactic(auto)]
+
 ghost use Rattle.std.specs.Prelude.{◌<◌, ◌≤◌};
 
 use chunk::{Answer, PlainPacketCodec};

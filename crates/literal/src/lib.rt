@@ -4,6 +4,8 @@
 // `checked_len` judges and counts; `checked` writes the meaning besides, to the front of a lent buffer. What is no literal is refused with 15,
 // bad literal, and the place of the first byte that no literal could continue with, or the end; a buffer that is too short with 6 and place 0. A
 // refused call changes no byte, so one walk judges, and only then a second one writes. Neither stops at bytes that stand for themselves.
+#![tactic(auto)]
+
 ghost use Rattle.std.specs.Prelude.{◌≡◌, Bool, false, ◌+◌, ◌≤◌, ◌<◌, length, drop, get_or};
 ghost use Rattle.escape.specs.Quote.{quote, backslash};
 ghost use Rattle.escape.specs.QuoteLaws.{first_of};

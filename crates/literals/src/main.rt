@@ -1,6 +1,8 @@
 // Replays a long list of literals of both modes, good and bad, each against what the grammar says of it (host/data/literals.py, which also
 // says how a line of the file is laid out): the judge's answer, the meaning and the buffer behind it, a buffer that just holds it, one that is
 // a byte too short, and that a refused call changes nothing. Prints how many lines there were of each kind, and each difference.
+#![tactic(auto)]
+
 ghost use Rattle.std.specs.Prelude.{length, ◌≤◌};
 
 use libc::STDOUT_FILENO;

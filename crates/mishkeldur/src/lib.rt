@@ -6,6 +6,8 @@
 //
 // The codec of a connection lives in a byte slice of `mk_state_size()` bytes that the caller keeps. Any content is some codec: one
 // that no opening has made is most likely a closed one, and never anything worse.
+#![tactic(auto)]
+
 ghost use Rattle.std.specs.Prelude.{◌≡◌, ◌≤◌, length};
 ghost use Rattle.wire.specs.Room.{put_said};
 ghost use Rattle.frame.specs.Codec.{renumbered};

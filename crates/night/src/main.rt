@@ -8,6 +8,8 @@
 // The server's bytes are received out of one file, never past the end of the answer that is awaited; the client's are those
 // that the codec must write for each command. host/data/night.py makes the small index, says how it is laid out, and has the same
 // numbers by itself.
+#![tactic(auto)]
+
 ghost use Rattle.std.specs.Prelude.{◌≡◌, ◌+◌, ◌<◌, ◌≤◌, length};
 
 use codec::{Got, Opened};

@@ -3,6 +3,8 @@
 // A statement has a fixed overhead, its rows, and one separator byte between two of them; a limit says how long it may be.
 // `plan` proposes where to cut, and `judge` accepts or rejects any proposal, whoever wrote it: a list of numbers, each the row
 // after a group's last. The planner lets a row join the group while it fits, and no accepted proposal has fewer groups.
+#![tactic(auto)]
+
 ghost use Rattle.std.specs.Prelude.{◌≡◌, ◌+◌, ◌-◌, ◌≤◌, ◌<◌, cond, false, length, take, drop, set, leb};
 ghost use Rattle.wire.specs.Room.{patch};
 ghost use Rattle.pack.specs.Pack.{fits, grouped, accepts, judged, judged_said, plan, too_long, planned_said, Plans};

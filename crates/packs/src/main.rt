@@ -2,6 +2,8 @@
 // a plain re-count that is written apart here, and the fewest groups of those accepted against the planner's. Then proposals that
 // nobody would make. Then the edges: exactly the limit and one over, 8,192 rows and 8,193, sums near 2^64, a list one short.
 // Whatever differs is printed by its name.
+#![tactic(auto)]
+
 use libc::STDOUT_FILENO;
 use pack::{Judged, Planned};
 use refusal::number_of;

@@ -3,6 +3,8 @@
 // each type, each difference with its place, and how many.
 //
 // host/data/records.py makes the files and says how an entry is laid out.
+#![tactic(auto)]
+
 use session::{ReadRecord, ReadVariable, SessionStateChange, Text};
 
 fn byte_at(s: &[u8], at: usize) -> u8 {

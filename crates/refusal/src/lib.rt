@@ -2,6 +2,8 @@
 //
 // Every entry of every room answers with these names; `number_of` alone turns them into numbers, so that no room has
 // numbers of its own. "Need more" is an answer and no refusal.
+#![tactic(auto)]
+
 ghost use Rattle.std.specs.Prelude.{◌≡◌};
 ghost use Rattle.refusal.specs.Number.{number};
 

@@ -4,6 +4,8 @@
 // each difference with its place, and how many.
 //
 // host/data/replies.py makes the files and says how an entry is laid out.
+#![tactic(auto)]
+
 use answer::{Answered, ErrPacket, Handed, NextRecord, OkPacket, Packet, ReadAnswer};
 use session::{ReadRecord, ReadVariable, SessionStateChange, Text};
 use wire::Put;

@@ -3,6 +3,8 @@
 // `read_row` and `read_params` walk over the values twice: the first walk tests them, the second writes each column's
 // start to the lent list, so that a refusal leaves the list as it was. A start counts from the row's first byte, and
 // `value::deserialize_bin` reads the value there. `null_bit` and `null_count` look at a bitmap by itself.
+#![tactic(auto)]
+
 ghost use Rattle.std.specs.Prelude.{◌≡◌, ◌+◌, ◌-◌, ◌*◌, ◌≤◌, ◌<◌, ◌/◌, ◌%◌, ◌^◌, cond, length, set, eqb};
 ghost use Rattle.std.specs.Int.Count.{ones};
 ghost use Rattle.wire.specs.LenEnc.{within};

@@ -1,5 +1,7 @@
 // Rows of a timetable that a real server sent: every start and every value against what an independent decoder says
 // (host/data/rows.py, which also says how the file is laid out), and each row cut at every length.
+#![tactic(auto)]
+
 ghost use Rattle.std.specs.Prelude.{◌<◌, ◌≤◌};
 
 use duration::Time;

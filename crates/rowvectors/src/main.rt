@@ -1,5 +1,7 @@
 // Rows, parameter lists, NULL bits and NULL counts around every limit, each against the answer that an independent decoder
 // gives (host/data/rowvectors.py, which also says how the file is laid out). After a refusal the list must be as it was.
+#![tactic(auto)]
+
 ghost use Rattle.std.specs.Prelude.{◌≤◌, ◌<◌};
 
 use libc::STDOUT_FILENO;

@@ -5,6 +5,8 @@
 // good or 0 for lost, the offset, the bytes, and the packets or the refusal's number (8 for a cut end). All of them are
 // written, or none and 6. `stretches` answers how many there are. Payloads are passed over, and each byte of a lost stretch is
 // looked at a few times at the most, so both take time by the capture's length alone.
+#![tactic(auto)]
+
 ghost use Rattle.std.specs.Prelude.{◌≡◌, ◌+◌, ◌*◌, ◌<◌, ◌≤◌, length, drop};
 ghost use Rattle.wire.specs.Room.{patch};
 ghost use Rattle.salvage.specs.Salvage.{chunk_at, step_said, run_on, given, follow, starts_at, to_start, stretches, numbers, counted, salvaged_said, Salvages};

@@ -2,6 +2,8 @@
 // stream, whose numbers go over 255: each byte changed to each other value, each byte lost, each byte doubled. The stretches of each
 // must lie end to end from its first byte to its end, and chunk's reader must find in each good one as many packets as the report
 // says, and use all its bytes.
+#![tactic(auto)]
+
 use chunk::{Answer, Opened, PlainPacketCodec};
 use libc::STDOUT_FILENO;
 use salvage::Salvaged;

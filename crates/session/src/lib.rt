@@ -3,6 +3,8 @@
 // A record is a type and its bytes, lent as a slice that may start anywhere in a packet. Strings are answered as a part
 // of those bytes, place and length; `wire::part` hands the part itself back. A record of variables is read one pair a
 // call: the cursor is a place, 0 at first, and each answer holds the next one.
+#![tactic(auto)]
+
 ghost use Rattle.std.specs.Prelude.{◌≡◌, length};
 ghost use Rattle.session.specs.Record.{record_at, record_said, variable_at, variable_said, record_bytes, bytes_of, pair_bytes};
 ghost use Rattle.session.specs.RecordLaws.{string_change, string_record};

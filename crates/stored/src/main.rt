@@ -4,6 +4,8 @@
 // is received twice: in pieces of 64 KiB, and in pieces of 1 to 23 bytes. host/data/stored.py says how a file is laid out.
 //
 // A capture with packed frames comes last: the first of them must be refused with 5, after the packets before it.
+#![tactic(auto)]
+
 ghost use Rattle.std.specs.Prelude.{◌<◌, ◌≤◌};
 
 use codec::{Got, Opened};

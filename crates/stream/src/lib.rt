@@ -1,6 +1,8 @@
 // The straight-through reader of plain chunks (request W7): for packets that are longer than any buffer. `pass` takes lent bytes up to
 // one chunk's end and hands back the payload among them as a part of the same bytes, marked if a packet ends there. Nothing is
 // copied and nothing is waited for; the state is numbers only. Until a packet's last part is marked, its bytes are not vouched for.
+#![tactic(auto)]
+
 ghost use Rattle.std.specs.Prelude.{◌≡◌};
 ghost use Rattle.chunk.specs.Chunks.{largest};
 ghost use Rattle.stream.specs.Stream.{opening, opened_said, done_of, pass, renumbered};

@@ -3,6 +3,8 @@
 // alone, by a small generator. After each piece the packets that were marked, their parts joined, must be those that the waiting
 // reader handed out, and a refusal the same once that has the whole chunk. Then packets that are longer than a buffer of 4 KiB, made
 // up on the fly: nothing of them is held.
+#![tactic(auto)]
+
 ghost use Rattle.std.specs.Prelude.{◌+◌, ◌<◌, ◌≤◌, length};
 
 use chunk::{MAX_PAYLOAD_LEN, PlainPacketCodec};

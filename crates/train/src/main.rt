@@ -2,6 +2,8 @@
 // leave. An offset of minus one minute is -60,000,000 microseconds and stands first.
 //
 // Standard input holds, for each train, its name as a length-encoded string and its offset as a binary TIME value.
+#![tactic(auto)]
+
 ghost use Rattle.std.specs.Prelude.{◌≤◌, ◌<◌};
 
 use duration::{Duration, ReadTime};

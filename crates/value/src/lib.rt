@@ -3,6 +3,8 @@
 // `deserialize_bin` and `deserialize_text` read the value at a place of the bytes and answer it with the place behind it,
 // or a refusal: 10 (bad type), 8 (short), 9 (bad lead). `skip` answers the place alone. `serialize` writes a value into a
 // lent buffer, all of it or nothing and 6 (no room), and `bin_len` says how many bytes that takes.
+#![tactic(auto)]
+
 ghost use Rattle.std.specs.Prelude.{◌≡◌};
 ghost use Rattle.wire.specs.LenEnc.{within, str_at, byte_str_at};
 ghost use Rattle.wire.specs.Room.{Wrote, length_of, needed_said};

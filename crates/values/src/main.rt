@@ -1,5 +1,7 @@
 // Values around every limit, each read, walked over, written and read back, against the answers that an independent reader
 // gives (host/data/values.py, which also says how the file is laid out). Where it must not be written no byte may change.
+#![tactic(auto)]
+
 ghost use Rattle.std.specs.Prelude.{◌≤◌, ◌<◌};
 
 use duration::Time;

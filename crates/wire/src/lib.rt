@@ -4,6 +4,8 @@
 // the bytes and a place in them, and answers what stands there with the place behind it, or a refusal: 8 (short), 9 (bad
 // lead). A writer takes a lent buffer and a place in it, and answers the place behind what it wrote, or 6 (no room), and
 // then no byte has changed. Nothing is demanded of a caller: any place and any length has its answer.
+#![tactic(auto)]
+
 ghost use Rattle.std.specs.Prelude.{◌≡◌, ◌∷◌, ◌+◌, ◌≤◌, ◌<◌, ◌^◌, length};
 ghost use Rattle.wire.specs.Le.{num_at, num_said, le_bytes};
 ghost use Rattle.wire.specs.LenEnc.{int_said, len_at, led, len_bytes, str_said, str_at, byte_str_at, within, str_bytes, part_of};

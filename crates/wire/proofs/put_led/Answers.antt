@@ -1,0 +1,51 @@
+use Rattle.wire.specs.RoomLaws.{has_yes, has_no, patch_cons, wrote_full, wrote_next}
+use Rattle.wire.specs.LeLaws.{le_length}
+use Rattle.wire.specs.Le.{le_bytes}
+use native.Mathlib.Omega.{arith}
+use lib.ListN.{length, length-set}
+use Prim.Native.Nat.{◌+◌, ◌≤◌, suc}
+use mathlib.Core.List.{◌∷◌}
+use mathlib.Core.Path.{◌∙◌}
+use borrow.Author.Rules.{rules}
+use Rattle.wire.proofs.put_led.Goals as goal
+
+pub bounds-dst-at : goal.bounds-dst-at
+bounds-dst-at c =
+    let a = c.args in
+    omega (arith, has_yes (a.at + (a.k + 1)) (length a.dst.now) c.has.ensures c.if-has.true)
+
+pub overflow_add-body : goal.overflow_add-body
+overflow_add-body c =
+    let a = c.args in
+    omega (arith, has_yes (a.at + (a.k + 1)) (length a.dst.now) c.has.ensures c.if-has.true)
+
+pub put_le-requires : goal.put_le-requires
+put_le-requires c =
+    let a = c.args in
+    simp length-set (omega (arith, has_yes (a.at + (a.k + 1)) (length a.dst.now) c.has.ensures c.if-has.true))
+
+pub overflow_add-result : goal.overflow_add-result
+overflow_add-result c =
+    let p = c in
+    let a = p.args in
+    omega (arith, has_yes (a.at + (a.k + 1)) (length a.dst.now) p.has.ensures p.if-has.true)
+
+pub shape_of-dst-then-has : goal.shape_of-dst-then-has
+shape_of-dst-then-has c = simp length-set at c.put_le.auto.dst
+
+pub returns-then-has : goal.returns-then-has
+returns-then-has c =
+    let p = c in
+    let a = p.args in
+    let h : a.at + (a.k + 1) ≤ length a.dst.now = has_yes (a.at + (a.k + 1)) (length a.dst.now) p.has.ensures p.if-has.true in
+    let n = le_length a.k a.v in
+    wrote_next (a.lead ∷ le_bytes a.k a.v) a.dst.now a.at _ _
+    (omega (arith, n, h))
+    (omega (arith, n))
+    (c.put_le.ensures ∙ patch_cons a.dst.now a.at a.lead (le_bytes a.k a.v) (omega (arith, n, h)))
+
+pub returns-else-has : goal.returns-else-has
+returns-else-has c =
+    let a = c.args in
+    let h = has_no (a.at + (a.k + 1)) (length a.dst.now) c.has.ensures c.if-has.false in
+    wrote_full (a.lead ∷ le_bytes a.k a.v) a.dst.now a.at (omega (arith, le_length a.k a.v, h))
