@@ -41,7 +41,7 @@ def mutable_slices(crates):
     found = {}
     for path in crates.glob('*/src/*.rt'):
         for m in re.finditer(r'fn (\w+)\(([^{]*?)\)\s*(?:->|requires|ensures|\{)', path.read_text(), re.S):
-            found[m.group(1)] = re.findall(r'(\w+): &mut \[', m.group(2))
+            found[m.group(1)] = (re.findall(r'(\w+): &mut \[', m.group(2)), re.findall(r'(\w+): &mut ', m.group(2)))
     return found
 
 
@@ -95,7 +95,16 @@ class Names:
         return None
 
 
-def turn(text, names, path, said):
+def source_words(crates):
+    """The sources' names that have an underscore, by the form that an older file wrote with a dash."""
+    words = {}
+    for path in crates.glob('*/src/*.rt'):
+        for w in re.findall(r'\b[a-z]\w*_\w+\b', path.read_text()):
+            words[w.replace('_', '-')] = w
+    return words
+
+
+def turn(text, names, path, said, words):
     uses, decls = blocks(text)
     keep = []
     for u in uses:
@@ -120,21 +129,30 @@ def turn(text, names, path, said):
                 arm = arms.get((norm(parts[0]), tuple(parts[1:n])))
                 if arm and n > 1:
                     return '.'.join([root, arm] + parts[n:])
-            new = steps.get(norm(parts[0]))
+            own = arms.get((norm(parts[0]), ()))
+            if own and norm(parts[0]) == 'match' and len(parts) > 1:
+                return '.'.join([root, own] + parts[1:])
+            new = steps.get(norm(parts[0])) or steps.get(norm(parts[0].removesuffix('_lem')))
             if new:
                 parts[0] = new
-                if len(parts) > 2 and parts[1] == 'auto' and parts[2].isdigit():
-                    lent = names.slices.get(names.callees.get(new), [])
+                if len(parts) > 2 and parts[1] in ('auto', 'new') and parts[2].isdigit():
+                    lent = names.slices.get(names.callees.get(new, path.split('.')[-1]), ([], []))[parts[1] == 'new']
                     if int(parts[2]) < len(lent):
                         parts[2] = lent[int(parts[2])]
+                if re.match(r'wrapping_(add|sub|mul)_', new) and parts[1:2] == ['ensures'] and len(parts) == 2:
+                    parts.append('value')
             elif parts[0] in ('well-formed', 'known-told'):
                 parts[0] = parts[0].replace('-', '_')
-            return '.'.join([root] + parts)
+            return '.'.join([root] + [words.get(p, p) for p in parts])
         t = re.sub(r"(?<![\w'.-])(%s)((?:\.[A-Za-z0-9][\w'-]*)+)" % '|'.join(map(re.escape, roots)), step, t)
+        # An `if` over `!x` says of x itself what it found.
+        t = re.sub(r"\bnot-(?:true|false) _ (\(?[\w'-]+(?:\.[\w'-]+)*\.(?:true|false)\b)", r'\1', t)
+        t = re.sub(r"(?<![\w'.-])(%s)(?![\w'-])" % '|'.join(map(re.escape, renamed)), lambda m: renamed[m.group(1)], t) if renamed else t
         # What is c itself needs no other name.
         for r in roots:
             for q in roots:
                 t = re.sub(r"let %s = %s in\s*" % (re.escape(r), re.escape(q)), '' if r == q else lambda m: m.group(0), t)
+        t = re.sub(r"(?<=\.)([a-z][\w'-]*-[\w'-]*)", lambda m: words.get(m.group(1), m.group(1)) if m.group(1) in words else m.group(1), t)
         t = re.sub(r"\btie\.((?:After|Then|Else|In|At)-?[\w-]*|Start)((?: invariant-[\w-]+| decreases-[\w-]+)*)", lambda m: place(m), t)
         t = re.sub(r"\blts\.((?:After|Then|Else|In|At)-?[\w-]*|Start)((?: invariant-[\w-]+| decreases-[\w-]+)*)", lambda m: place(m), t)
         return t
@@ -146,6 +164,11 @@ def turn(text, names, path, said):
             return m.group(0)
         return 'goal.' + new
 
+    renamed = {}
+    for d in decls:
+        m = re.match(r"(?:pub )?([\w'-]+) : tie\.Need-([\w'-]+)", next((l for l in d if not l.startswith('--')), ''))
+        if m and names.need(m.group(2)) and names.need(m.group(2)) != m.group(1):
+            renamed[m.group(1)] = names.need(m.group(2))
     for d in decls:
         comments = [l for l in d if l.startswith('--')]
         code = [l for l in d if not l.startswith('--')]
@@ -226,6 +249,7 @@ def main():
     old, new = pathlib.Path(old), pathlib.Path(new)
     crate = new.resolve().parent.name
     slices = mutable_slices(new.resolve().parent.parent)
+    words = source_words(new.resolve().parent.parent)
     by = {}
     for key, entry in table.items():
         k = re.sub(rf'^Rattle-{crate}-proofs\.', '', key)
@@ -242,7 +266,7 @@ def main():
             said.append(f'{path}: not in {names_json}')
             continue
         key, entry = found
-        uses, invariants, answers = turn(proof.read_text(), Names(entry, slices).loops_of(entry), path, said)
+        uses, invariants, answers = turn(proof.read_text(), Names(entry, slices).loops_of(entry), path, said, words)
         target = new / folder
         target.mkdir(parents=True, exist_ok=True)
         if (target / 'Proof.antt').exists():

@@ -17,7 +17,7 @@ use refusal::Refusal;
 use session::{ReadRecord, Text};
 use wire::{Put, ReadInt, ReadStr, inner};
 
-#[derive(Drop)]
+#[derive(Clone, Copy)]
 pub struct OkPacket {
     pub affected_rows: u64,
     pub last_insert_id: u64,
@@ -28,20 +28,20 @@ pub struct OkPacket {
     pub records: Text,
 }
 
-#[derive(Drop)]
+#[derive(Clone, Copy)]
 pub struct ErrPacket {
     pub code: u16,
     pub state: Text,
     pub message: Text,
 }
 
-#[derive(Drop)]
+#[derive(Clone, Copy)]
 pub struct EofPacket {
     pub warnings: u16,
     pub status: u16,
 }
 
-#[derive(Drop)]
+#[derive(Clone, Copy)]
 pub enum Packet {
     Ok(OkPacket),
     Err(ErrPacket),
@@ -49,20 +49,20 @@ pub enum Packet {
 }
 
 // A packet that was read, and how many of its bytes that took.
-#[derive(Drop)]
+#[derive(Clone, Copy)]
 pub struct Answered {
     pub packet: Packet,
     pub used: usize,
 }
 
-#[derive(Drop)]
+#[derive(Clone, Copy)]
 pub enum ReadAnswer {
     Done(Answered),
     Refused(Refusal),
 }
 
 // A record's type, the part of the packet that `read_handed` reads, and the place of the next record.
-#[derive(Drop)]
+#[derive(Clone, Copy)]
 pub struct Handed {
     pub kind: u8,
     pub at: usize,
@@ -70,7 +70,7 @@ pub struct Handed {
     pub next: usize,
 }
 
-#[derive(Drop)]
+#[derive(Clone, Copy)]
 pub enum NextRecord {
     // The cursor stands at the end.
     End,
@@ -79,13 +79,13 @@ pub enum NextRecord {
 }
 
 // What stands behind the numbers of an OK packet.
-#[derive(Drop)]
+#[derive(Clone, Copy)]
 pub struct Texts {
     pub message: Text,
     pub records: Text,
 }
 
-#[derive(Drop)]
+#[derive(Clone, Copy)]
 pub enum ReadTexts {
     Done(Texts),
     Refused(Refusal),

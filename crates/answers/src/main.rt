@@ -255,7 +255,7 @@ fn quoted_right(out: &mut [u8], line: &[u8]) -> bool {
 // ---- connections
 
 // The connection's codec after a line, and whether the line was answered as it should be.
-#[derive(Drop)]
+#[derive(Clone, Copy)]
 struct End {
     st: PacketCodec,
     right: bool,

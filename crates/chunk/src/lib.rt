@@ -32,7 +32,7 @@ pub const MAX_LIMIT: usize = 1_073_741_824;
 // The state of one end. The four small fields stand together, so that it is copied without padding, and `waiting` and `ahead`
 // apart, so that they are not read as one number right after they were written as two. With `waiting`, the header of a chunk of
 // `len` bytes with the number `ahead` is remembered, and its chunk not taken yet; `taken` counts the bytes of the current packet.
-#[derive(Drop)]
+#[derive(Clone, Copy)]
 pub struct PlainPacketCodec {
     pub limit: usize,
     pub taken: usize,
@@ -44,21 +44,21 @@ pub struct PlainPacketCodec {
 }
 
 // A state to begin with. A refused opening gives a closed one.
-#[derive(Drop)]
+#[derive(Clone, Copy)]
 pub enum Opened {
     Open(PlainPacketCodec),
     Refused(Refusal, PlainPacketCodec),
 }
 
 // Which number a chunk may have besides the expected one: stored frames accept that of the last frame.
-#[derive(Drop)]
+#[derive(Clone, Copy)]
 pub enum Tolerance {
     Strict,
     Also(u8),
 }
 
 // What a reader answers: a whole packet is so many bytes at the packet buffer's front.
-#[derive(Drop)]
+#[derive(Clone, Copy)]
 pub enum Answer {
     NeedMore,
     Packet(usize),
@@ -66,7 +66,7 @@ pub enum Answer {
 }
 
 // The answer, the bytes used and the state then.
-#[derive(Drop)]
+#[derive(Clone, Copy)]
 pub struct Decoded {
     pub answer: Answer,
     pub used: usize,
@@ -74,14 +74,14 @@ pub struct Decoded {
 }
 
 // One chunk: with `more`, the packet goes on behind it.
-#[derive(Drop)]
+#[derive(Clone, Copy)]
 pub struct Turn {
     pub more: bool,
     pub decoded: Decoded,
 }
 
 // What a writer answers, the bytes written or why nothing was, and the state then.
-#[derive(Drop)]
+#[derive(Clone, Copy)]
 pub struct Encoded {
     pub put: Put,
     pub next: PlainPacketCodec,

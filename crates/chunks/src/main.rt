@@ -234,7 +234,7 @@ fn differences(space: &mut [u8], file: &[u8], n: usize) -> usize {
 
 // ---- two ends
 
-#[derive(Drop)]
+#[derive(Clone, Copy)]
 struct Ends {
     writer: PlainPacketCodec,
     reader: PlainPacketCodec,
@@ -242,7 +242,7 @@ struct Ends {
 }
 
 // The reading end then, and whether it read what it should.
-#[derive(Drop)]
+#[derive(Clone, Copy)]
 struct Back {
     reader: PlainPacketCodec,
     right: bool,
@@ -310,7 +310,7 @@ fn pass_all(out: &mut [u8], back: &mut [u8], first: PlainPacketCodec) -> usize {
 
 // ---- captured connections
 
-#[derive(Drop)]
+#[derive(Clone, Copy)]
 struct Run {
     codec: PlainPacketCodec,
     used: usize,

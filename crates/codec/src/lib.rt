@@ -23,14 +23,14 @@ use wire::Put;
 pub mod lent;
 
 // A codec to begin with. A refused opening gives a closed one.
-#[derive(Drop)]
+#[derive(Clone, Copy)]
 pub enum Opened {
     Open(PacketCodec),
     Refused(Refusal, PacketCodec),
 }
 
 // What reading answers, with the bytes used first: a whole packet is so many bytes at the packet buffer's front.
-#[derive(Drop)]
+#[derive(Clone, Copy)]
 pub enum Got {
     NeedMore(usize),
     Packet(usize, usize),
@@ -38,14 +38,14 @@ pub enum Got {
 }
 
 // The codec after a call of `decode`, and its answer.
-#[derive(Drop)]
+#[derive(Clone, Copy)]
 pub struct Decoded {
     pub next: PacketCodec,
     pub got: Got,
 }
 
 // The codec after a call of `encode`, and its answer: the bytes written, or why nothing was.
-#[derive(Drop)]
+#[derive(Clone, Copy)]
 pub struct Encoded {
     pub next: PacketCodec,
     pub put: Put,

@@ -14,7 +14,7 @@ use refusal::Refusal;
 use wire::ReadStr;
 
 // The fields of a TIME value, as they stand in its bytes.
-#[derive(Drop)]
+#[derive(Clone, Copy)]
 pub struct Time {
     pub neg: bool,
     pub days: u32,
@@ -25,33 +25,33 @@ pub struct Time {
 }
 
 // A TIME value that was read, and the place behind it.
-#[derive(Drop)]
+#[derive(Clone, Copy)]
 pub struct GotTime {
     pub time: Time,
     pub next: usize,
 }
 
-#[derive(Drop)]
+#[derive(Clone, Copy)]
 pub enum ReadTime {
     Done(GotTime),
     Refused(Refusal),
 }
 
 // Signed microseconds; or 11, where no i64 holds them at both signs.
-#[derive(Drop)]
+#[derive(Clone, Copy)]
 pub enum Duration {
     Micros(i64),
     Refused(Refusal),
 }
 
 // The duration of a TIME value that was read, and the place behind it.
-#[derive(Drop)]
+#[derive(Clone, Copy)]
 pub struct GotDuration {
     pub micros: i64,
     pub next: usize,
 }
 
-#[derive(Drop)]
+#[derive(Clone, Copy)]
 pub enum ReadDuration {
     Done(GotDuration),
     Refused(Refusal),

@@ -329,7 +329,7 @@ fn fits(dst: &[u8], at: usize, input: &[u8], no_backslash_escape: bool) -> bool
 }
 
 // How far a writer has come: the place in the buffer, and the byte of the input that comes next.
-#[derive(Drop)]
+#[derive(Clone, Copy)]
 struct Step {
     next: usize,
     from: usize,

@@ -25,7 +25,7 @@ mod writer;
 // The state of one end of a connection, flat, so that it is copied without padding: first the plain codec's fields, with `unread`
 // and `size` between them, and then the frames': `frame` is the next frame's number; with `held`, the header of a frame of `size`
 // bytes with the number `coming` is remembered; `framed` says whether frames are on.
-#[derive(Drop)]
+#[derive(Clone, Copy)]
 pub struct PacketCodec {
     pub limit: usize,
     pub taken: usize,
@@ -43,7 +43,7 @@ pub struct PacketCodec {
 }
 
 // The answer, the bytes used and the codec then.
-#[derive(Drop)]
+#[derive(Clone, Copy)]
 pub struct FrameDecoded {
     pub answer: Answer,
     pub used: usize,
@@ -51,7 +51,7 @@ pub struct FrameDecoded {
 }
 
 // What a writer answers, the bytes written or why nothing was, and the codec then.
-#[derive(Drop)]
+#[derive(Clone, Copy)]
 pub struct FrameEncoded {
     pub put: Put,
     pub next: PacketCodec,

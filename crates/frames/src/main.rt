@@ -155,7 +155,7 @@ fn is_left(file: &[u8], at: usize, staging: &[u8], buf: &[u8]) -> bool
 // ---- the operations
 
 // The codec after an operation, and whether all is as it should be.
-#[derive(Drop)]
+#[derive(Clone, Copy)]
 struct Run {
     codec: PacketCodec,
     right: bool,

@@ -77,7 +77,7 @@ fn place_of(s: usize, j: usize) -> usize {
 }
 
 // How many chunks come in their places: few in half of the long lines, so that one from far behind can come next.
-fn in_place_lem(s: usize) -> usize
+fn in_place(s: usize) -> usize
     ensures { result ≤ 300 }
 {
     if s % 32 == 0 {
@@ -168,7 +168,7 @@ fn idle(limit: usize, number: u8) -> PlainPacketCodec {
     }
 }
 
-#[derive(Drop)]
+#[derive(Clone, Copy)]
 struct Writer {
     codec: PlainPacketCodec,
     right: bool,
@@ -209,7 +209,7 @@ fn write_packets(out: &mut [u8], one: &mut [u8], pool: &[u8], s: usize) -> Write
 }
 
 // What arrives: how many bytes, and how many of them end with the misplaced chunk (more than there are, where none is).
-#[derive(Drop)]
+#[derive(Clone, Copy)]
 struct Arrived {
     size: usize,
     due: usize,
@@ -245,7 +245,7 @@ fn arrive(line: &mut [u8], out: &[u8], s: usize, c: usize) -> Arrived
 // ---- the host
 
 // The bytes before `at` are used; `go` while the reader has packets; `right` while all is as it should be.
-#[derive(Drop)]
+#[derive(Clone, Copy)]
 struct Host {
     codec: PlainPacketCodec,
     at: usize,
@@ -387,7 +387,7 @@ fn serve(dst: &mut [u8], line: &[u8], pool: &[u8], s: usize, a: Arrived) -> Host
 
 // ---- what all lines come to
 
-#[derive(Drop)]
+#[derive(Clone, Copy)]
 struct Counts {
     written: usize,
     handed: usize,
@@ -465,7 +465,7 @@ fn run_line(
     s: usize,
     t: Counts,
 ) -> Counts {
-    let c = in_place_lem(s);
+    let c = in_place(s);
     let w = write_packets(out, one, pool, s);
     let a = arrive(line, out, s, c);
     let h = serve(dst, line, pool, s, a);

@@ -20,14 +20,14 @@ use refusal::Refusal;
 use wire::inner;
 
 // How many bytes a literal means; or why there are none, and at which place of the input.
-#[derive(Drop)]
+#[derive(Clone, Copy)]
 pub enum Answer {
     Means(usize),
     Refused(Refusal, usize),
 }
 
 // What the judge finds from a place on: the place behind an item, with the number of bytes meant up to there; or the end of the walk.
-#[derive(Drop)]
+#[derive(Clone, Copy)]
 enum Turn {
     On(usize, usize),
     Over(Answer),
@@ -171,7 +171,7 @@ pub fn checked_len(input: &[u8], no_backslash_escape: bool) -> Answer
 // ---- the writer, for what the judge has found to be a literal
 
 // A place of the input, and the place of the buffer where its meaning goes on.
-#[derive(Drop)]
+#[derive(Clone, Copy)]
 struct Spot {
     at: usize,
     next: usize,

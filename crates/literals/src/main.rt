@@ -229,7 +229,7 @@ fn line_right(line: &[u8], source: &mut [u8], want: &mut [u8], dst: &mut [u8]) -
 
 // ---- all of them
 
-#[derive(Drop)]
+#[derive(Clone, Copy)]
 struct Tally {
     lines: usize,
     other: usize,

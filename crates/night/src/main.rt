@@ -52,7 +52,7 @@ const ROW: usize = 4;
 
 // A connection. Unread bytes stand from `at` to `have` in the receiving buffer, and `left` bytes of the answer are still to come.
 // `answer` and `len` are the codec's last answer: a packet's length, or a refusal's number.
-#[derive(Drop)]
+#[derive(Clone, Copy)]
 struct Line {
     codec: PacketCodec,
     at: usize,
@@ -63,7 +63,7 @@ struct Line {
 }
 
 // What came over it.
-#[derive(Drop)]
+#[derive(Clone, Copy)]
 struct Counts {
     exchanges: usize,
     phase: usize,
@@ -79,7 +79,7 @@ struct Counts {
     wrong: usize,
 }
 
-#[derive(Drop)]
+#[derive(Clone, Copy)]
 struct Night {
     line: Line,
     counts: Counts,
@@ -820,7 +820,7 @@ fn load(
 // ---- the queue
 
 // What a walk over the queue sees; `up` and `down` are the sums of the sizes from 0 on and below. Places count from 1.
-#[derive(Drop)]
+#[derive(Clone, Copy)]
 struct Tally {
     up: u64,
     down: u64,

@@ -15,7 +15,7 @@ use refusal::Refusal;
 // The most rows that either of the two looks at.
 pub const MAX_ROWS: usize = 8192;
 
-#[derive(Drop)]
+#[derive(Clone, Copy)]
 pub enum Judged {
     Accepted,
     Rejected,
@@ -23,7 +23,7 @@ pub enum Judged {
 }
 
 // How many groups there are, or why there are none.
-#[derive(Drop)]
+#[derive(Clone, Copy)]
 pub enum Planned {
     Groups(usize),
     Refused(Refusal),

@@ -104,7 +104,7 @@ fn record_agrees(s: &[u8], entry: usize) -> bool {
     }
 }
 
-#[derive(Drop)]
+#[derive(Clone, Copy)]
 struct Turn {
     agrees: bool,
     cursor: usize,

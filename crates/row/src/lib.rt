@@ -19,32 +19,32 @@ use refusal::Refusal;
 use value::End;
 
 // Who wrote a bitmap, after the Rust's `SerializationSide`: a row comes from the server, parameters from the client.
-#[derive(Drop)]
+#[derive(Clone, Copy)]
 pub enum Side {
     ServerSide,
     ClientSide,
 }
 
-#[derive(Drop)]
+#[derive(Clone, Copy)]
 pub enum ReadNull {
     Done(bool),
     Refused(Refusal),
 }
 
-#[derive(Drop)]
+#[derive(Clone, Copy)]
 pub enum ReadCount {
     Done(usize),
     Refused(Refusal),
 }
 
 // How many of a row's columns are NULL, and how many bytes it takes.
-#[derive(Drop)]
+#[derive(Clone, Copy)]
 pub struct Columns {
     pub nulls: usize,
     pub used: usize,
 }
 
-#[derive(Drop)]
+#[derive(Clone, Copy)]
 pub enum ReadRow {
     Done(Columns),
     Refused(Refusal),

@@ -89,7 +89,7 @@ fn holds(list: &[usize], file: &[u8], at: usize, n: usize) -> bool
 
 // ---- a value as the file has it: a tag, and six numbers of two bytes
 
-#[derive(Drop)]
+#[derive(Clone, Copy)]
 struct Flat {
     tag: usize,
     a: u64,

@@ -17,21 +17,21 @@ use refusal::{Refusal, number_of};
 use wire::inner::le;
 
 // How many stretches there are, or why there is no report.
-#[derive(Drop)]
+#[derive(Clone, Copy)]
 pub enum Salvaged {
     Stretches(usize),
     Refused(Refusal),
 }
 
 // A chunk that is to have a number: how many bytes it takes, or why the place is bad.
-#[derive(Drop)]
+#[derive(Clone, Copy)]
 enum Step {
     Took(usize),
     Bad(Refusal),
 }
 
 // What is read on from a start: packets and bytes, and why it ends: the refusal's number, or 0 at the capture's end.
-#[derive(Drop)]
+#[derive(Clone, Copy)]
 struct Run {
     packets: usize,
     bytes: usize,
@@ -39,7 +39,7 @@ struct Run {
 }
 
 // A run, and the bytes that are lost behind it.
-#[derive(Drop)]
+#[derive(Clone, Copy)]
 struct Round {
     packets: usize,
     bytes: usize,

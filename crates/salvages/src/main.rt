@@ -67,7 +67,7 @@ fn reads(buf: &mut [u8], bytes: &[u8], packets: usize) -> bool {
 // ---- a report
 
 // What was found so far, over all captures of a kind. `at` is how far the stretches of this one go; with `show` each is printed.
-#[derive(Drop)]
+#[derive(Clone, Copy)]
 struct Tally {
     show: bool,
     right: bool,

@@ -15,21 +15,21 @@ use refusal::Refusal;
 use wire::{Put, ReadStr, inner};
 
 // The `len` bytes at the place `at` of the record, or of the source that a writer is lent.
-#[derive(Drop)]
+#[derive(Clone, Copy)]
 pub struct Text {
     pub at: usize,
     pub len: usize,
 }
 
 // A name, its value, and the place of the next pair.
-#[derive(Drop)]
+#[derive(Clone, Copy)]
 pub struct SystemVariable {
     pub name: Text,
     pub value: Text,
     pub next: usize,
 }
 
-#[derive(Drop)]
+#[derive(Clone, Copy)]
 pub enum SessionStateChange {
     // Handed out pair by pair, by `next_variable`.
     SystemVariables,
@@ -42,19 +42,19 @@ pub enum SessionStateChange {
 }
 
 // What a record says, and how many of its bytes that took.
-#[derive(Drop)]
+#[derive(Clone, Copy)]
 pub struct Record {
     pub change: SessionStateChange,
     pub used: usize,
 }
 
-#[derive(Drop)]
+#[derive(Clone, Copy)]
 pub enum ReadRecord {
     Done(Record),
     Refused(Refusal),
 }
 
-#[derive(Drop)]
+#[derive(Clone, Copy)]
 pub enum ReadVariable {
     // The cursor stands at the end.
     End,

@@ -36,7 +36,7 @@ const END: usize = 3;
 
 // A connection. Of the answer `have` bytes were received and `at` used; `answer` and `len` are the codec's last answer; `packets`
 // and `bytes` count what the server sent before, and `turns` what was said by then.
-#[derive(Drop)]
+#[derive(Clone, Copy)]
 struct Run {
     codec: PacketCodec,
     at: usize,

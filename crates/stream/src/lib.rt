@@ -15,7 +15,7 @@ mod reader;
 
 // The state of the reader. `taken` counts the bytes of the current packet up to its current chunk's end, `left` those of the chunk
 // that are to come; `full`: that chunk has M bytes. Of a header that came in part, `got` bytes are kept: first, second and third.
-#[derive(Drop)]
+#[derive(Clone, Copy)]
 pub struct Stream {
     pub limit: usize,
     pub taken: usize,
@@ -30,14 +30,14 @@ pub struct Stream {
 }
 
 // A state to begin with. A refused opening gives a closed one.
-#[derive(Drop)]
+#[derive(Clone, Copy)]
 pub enum Opened {
     Open(Stream),
     Refused(Refusal, Stream),
 }
 
 // What a call answers: a part of the lent bytes by place and length, and whether a packet ends with it.
-#[derive(Drop)]
+#[derive(Clone, Copy)]
 pub enum Answer {
     NeedMore,
     Part(usize, usize, bool),
@@ -45,7 +45,7 @@ pub enum Answer {
 }
 
 // The answer, the bytes used and the state then.
-#[derive(Drop)]
+#[derive(Clone, Copy)]
 pub struct Passed {
     pub answer: Answer,
     pub used: usize,

@@ -171,7 +171,7 @@ fn summed(bytes: &[u8], first: usize) -> usize
 
 // The bytes before `at` are used. `sum` and `len` are the last packet's checksum and length, and `digest` is of those of all packets so
 // far. `refusal` is the number of the first one, 0 while there is none; `right` while each later call is refused with 7.
-#[derive(Drop)]
+#[derive(Clone, Copy)]
 struct Shown {
     at: usize,
     packets: usize,
@@ -217,7 +217,7 @@ fn with_refusal(mut h: Shown, number: usize) -> Shown {
 // ---- the straight-through reader
 
 // Of the packet that has not ended: its checksum and its length so far. `more` while a call took bytes.
-#[derive(Drop)]
+#[derive(Clone, Copy)]
 struct Straight {
     stream: Stream,
     shown: Shown,
@@ -307,7 +307,7 @@ fn pass_piece(bytes: &[u8], got: usize, first: Straight) -> Straight {
 
 // ---- the waiting reader
 
-#[derive(Drop)]
+#[derive(Clone, Copy)]
 struct Waiting {
     codec: PlainPacketCodec,
     shown: Shown,
@@ -354,7 +354,7 @@ fn wait_piece(dst: &mut [u8], bytes: &[u8], got: usize, first: Waiting) -> Waiti
 
 // ---- side by side
 
-#[derive(Drop)]
+#[derive(Clone, Copy)]
 struct Pair {
     straight: Straight,
     waiting: Waiting,
@@ -466,7 +466,7 @@ fn serve(dst: &mut [u8], bytes: &[u8], s: usize, size: usize) -> Pair {
 
 // ---- what all streams come to
 
-#[derive(Drop)]
+#[derive(Clone, Copy)]
 struct Counts {
     written: usize,
     pieces: usize,

@@ -59,7 +59,7 @@ fn print_name(input: &[u8], place: usize) {
 }
 
 // A train in the input.
-#[derive(Drop)]
+#[derive(Clone, Copy)]
 enum Train {
     // Its offset, and where the next one stands.
     Ready(i64, usize),
@@ -70,7 +70,7 @@ enum Train {
 }
 
 // The offset at a place.
-fn offset_at_lem(input: &[u8], at: usize) -> Train {
+fn offset_at(input: &[u8], at: usize) -> Train {
     match duration::read_time(input, at) {
         ReadTime::Done(t) => {
             let next = t.next;
@@ -87,7 +87,7 @@ fn train_at(input: &[u8], at: usize) -> Train {
     match wire::checked_eat_lenenc_str(input, at) {
         ReadStr::Done(name) => {
             let end = name.at + name.len;
-            offset_at_lem(input, end)
+            offset_at(input, end)
         }
         ReadStr::Refused(r) => Train::Unread(r, at),
     }

@@ -20,7 +20,7 @@ pub mod inner;
 mod read;
 mod write;
 
-#[derive(Drop)]
+#[derive(Clone, Copy)]
 pub struct Date {
     pub year: u16,
     pub month: u8,
@@ -32,7 +32,7 @@ pub struct Date {
 }
 
 // A column's value. A string is a part of the caller's bytes: place and length. A NaN is kept by its bits.
-#[derive(Drop)]
+#[derive(Clone, Copy)]
 pub enum Value {
     NULL,
     Bytes { at: usize, len: usize },
@@ -47,7 +47,7 @@ pub enum Value {
 }
 
 // How a column type's values are laid out.
-#[derive(Drop)]
+#[derive(Clone, Copy)]
 pub enum Kind {
     Str,
     One,
@@ -63,20 +63,20 @@ pub enum Kind {
 }
 
 // A value that was read, and the place behind it.
-#[derive(Drop)]
+#[derive(Clone, Copy)]
 pub struct GotValue {
     pub value: Value,
     pub next: usize,
 }
 
-#[derive(Drop)]
+#[derive(Clone, Copy)]
 pub enum ReadValue {
     Done(GotValue),
     Refused(Refusal),
 }
 
 // Where a value ends.
-#[derive(Drop)]
+#[derive(Clone, Copy)]
 pub enum End {
     Next(usize),
     Refused(Refusal),

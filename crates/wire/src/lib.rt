@@ -16,53 +16,53 @@ use refusal::Refusal;
 pub mod inner;
 
 // A number that was read, and the place behind it.
-#[derive(Drop)]
+#[derive(Clone, Copy)]
 pub struct Num {
     pub value: u64,
     pub next: usize,
 }
 
-#[derive(Drop)]
+#[derive(Clone, Copy)]
 pub enum ReadNum {
     Done(Num),
     Refused(Refusal),
 }
 
 // A length-encoded integer that was read, and the place behind it.
-#[derive(Drop)]
+#[derive(Clone, Copy)]
 pub struct LenEncInt {
     pub value: u64,
     pub next: usize,
 }
 
-#[derive(Drop)]
+#[derive(Clone, Copy)]
 pub enum ReadInt {
     Done(LenEncInt),
     Refused(Refusal),
 }
 
 // A string that was read: the `len` bytes at the place `at` of the caller's bytes. It ends at `at + len`.
-#[derive(Drop)]
+#[derive(Clone, Copy)]
 pub struct LenEncStr {
     pub at: usize,
     pub len: usize,
 }
 
-#[derive(Drop)]
+#[derive(Clone, Copy)]
 pub enum ReadStr {
     Done(LenEncStr),
     Refused(Refusal),
 }
 
 // What a writer answers: the place behind what was written, or why nothing was.
-#[derive(Drop)]
+#[derive(Clone, Copy)]
 pub enum Put {
     Next(usize),
     Refused(Refusal),
 }
 
 // How many bytes a writer would take, for a caller who asks first; or 6, where no buffer could hold them.
-#[derive(Drop)]
+#[derive(Clone, Copy)]
 pub enum Needed {
     Bytes(usize),
     Refused(Refusal),
