@@ -216,7 +216,6 @@ def turn(text, names, path, said, words):
                 if any('search rules' in l for l in code[1:]) and len(code) == 2:
                     continue
                 said.append(f'{path}: {m.group(2)} is no goal now')
-                answers.append('\n'.join('-- ' + l for l in d))
                 continue
             rest = code[1:]
             unf = [l for l in rest if l.startswith('unfolding')]

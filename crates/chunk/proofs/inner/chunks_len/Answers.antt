@@ -1,0 +1,7 @@
+use Rattle.chunk.specs.Chunks.{needed}
+use Rattle.std.proofs.Common.{refl, rules}
+use Rattle.chunk.proofs.inner.chunks_len.Goals as goal
+
+pub returns : goal.returns
+unfolding needed
+returns c = refl
