@@ -1,0 +1,7 @@
+use Rattle.std.proofs.Common.{refl, rules}
+use Rattle.frame.specs.Frames.{ceil}
+use Rattle.frame.proofs.writer.pieces.Goals as goal
+
+pub returns : goal.returns
+unfolding ceil
+returns c = refl

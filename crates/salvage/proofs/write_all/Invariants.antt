@@ -1,0 +1,9 @@
+use Rattle.salvage.proofs.RoundLaws.{Writing, writing_begins, writing_room, writing_turn, writing_ends, round_within, round_onward}
+use Rattle.std.proofs.Common.{◌-◌, length, arith}
+use Rattle.salvage.proofs.write_all.Given as goal
+
+abbrev pub invariant-loop-at : goal.invariant-loop-at
+invariant-loop-at l = Writing l.limit l.capture l.initial.out l.out l.i l.at
+
+abbrev pub decreases-loop-at : goal.decreases-loop-at
+decreases-loop-at l = length l.capture - l.at
