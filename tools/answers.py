@@ -41,7 +41,7 @@ def mutable_slices(crates):
     found = {}
     for path in crates.glob('*/src/*.rt'):
         for m in re.finditer(r'fn (\w+)\(([^{]*?)\)\s*(?:->|requires|ensures|\{)', path.read_text(), re.S):
-            found[m.group(1)] = (re.findall(r'(\w+): &mut \[', m.group(2)), re.findall(r'(\w+): &mut ', m.group(2)))
+            found[f'{path.parent.parent.name}::{m.group(1)}'] = (re.findall(r'(\w+): &mut \[', m.group(2)), re.findall(r'(\w+): &mut ', m.group(2)))
     return found
 
 
@@ -58,7 +58,7 @@ class Names:
             self.parents[place[0]] = place[1]
             self.own[place[0]] = (place[2], arms)
             if place[3]:
-                self.callees[place[2][1]] = place[3].split('::')[-1]
+                self.callees[place[2][1]] = '::'.join([place[3].split('::')[0], place[3].split('::')[-1]])
 
     def chain(self, place):
         """The steps above a place, the nearest first: old to new names, and what an arm's fields were."""
@@ -104,7 +104,7 @@ def source_words(crates):
     return words
 
 
-def turn(text, names, path, said, words):
+def turn(text, names, path, said, words, crate):
     uses, decls = blocks(text)
     keep = []
     for u in uses:
@@ -122,6 +122,17 @@ def turn(text, names, path, said, words):
                 break
             roots = roots + more
 
+        def lent(rest, callee):
+            # What a call gave back of the k-th lent thing was .new.1.1.0 and the like: it goes by the parameter's name now.
+            if len(rest) > 1 and rest[0] in ('auto', 'new'):
+                k = 1
+                while k < len(rest) and rest[k] == '1':
+                    k += 1
+                found = names.slices.get(callee, ([], []))[rest[0] == 'new']
+                if k < len(rest) and rest[k] == '0' and k - 1 < len(found):
+                    return [rest[0], found[k - 1]] + rest[k + 1:]
+            return rest
+
         def step(m):
             root, rest = m.group(1), m.group(2)
             parts = rest[1:].split('.')
@@ -135,18 +146,18 @@ def turn(text, names, path, said, words):
             new = steps.get(norm(parts[0])) or steps.get(norm(parts[0].removesuffix('_lem')))
             if new:
                 parts[0] = new
-                if len(parts) > 2 and parts[1] in ('auto', 'new') and parts[2].isdigit():
-                    lent = names.slices.get(names.callees.get(new, path.split('.')[-1]), ([], []))[parts[1] == 'new']
-                    if int(parts[2]) < len(lent):
-                        parts[2] = lent[int(parts[2])]
+                parts[1:] = lent(parts[1:], names.callees.get(new, own_name))
                 if re.match(r'wrapping_(add|sub|mul)_', new) and parts[1:2] == ['ensures'] and len(parts) == 2:
                     parts.append('value')
             elif parts[0] in ('well-formed', 'known-told'):
                 parts[0] = parts[0].replace('-', '_')
             return '.'.join([root] + [words.get(p, p) for p in parts])
         t = re.sub(r"(?<![\w'.-])(%s)((?:\.[A-Za-z0-9][\w'-]*)+)" % '|'.join(map(re.escape, roots)), step, t)
+        for m in re.finditer(r"let ([\w'-]+) = (?:%s)\.([\w'-]+) in" % '|'.join(map(re.escape, roots)), t):
+            if m.group(2) in names.callees:
+                t = re.sub(r"(?<![\w'.-])%s((?:\.[A-Za-z0-9][\w'-]*)+)" % re.escape(m.group(1)), lambda k: '.'.join([m.group(1)] + lent(k.group(1)[1:].split('.'), names.callees[m.group(2)])), t)
         # An `if` over `!x` says of x itself what it found.
-        t = re.sub(r"\bnot-(?:true|false) _ (\(?[\w'-]+(?:\.[\w'-]+)*\.(?:true|false)\b)", r'\1', t)
+        t = re.sub(r"\bnot-(?:true|false) _ (\(?[\w'-]+(?:\.[\w'-]+)*?\.if-not-([\w'-]+)\.(?:true|false)\b)", lambda m: m.group(1) if any(s == m.group(2) or m.group(2).startswith(s + '-') for s in names.callees) else m.group(0), t)
         t = re.sub(r"(?<![\w'.-])(%s)(?![\w'-])" % '|'.join(map(re.escape, renamed)), lambda m: renamed[m.group(1)], t) if renamed else t
         # What is c itself needs no other name.
         for r in roots:
@@ -164,6 +175,7 @@ def turn(text, names, path, said, words):
             return m.group(0)
         return 'goal.' + new
 
+    own_name = f'{crate}::' + path.split('.')[-1]
     renamed = {}
     for d in decls:
         m = re.match(r"(?:pub )?([\w'-]+) : tie\.Need-([\w'-]+)", next((l for l in d if not l.startswith('--')), ''))
@@ -265,7 +277,7 @@ def main():
             said.append(f'{path}: not in {names_json}')
             continue
         key, entry = found
-        uses, invariants, answers = turn(proof.read_text(), Names(entry, slices).loops_of(entry), path, said, words)
+        uses, invariants, answers = turn(proof.read_text(), Names(entry, slices).loops_of(entry), path, said, words, crate)
         target = new / folder
         target.mkdir(parents=True, exist_ok=True)
         if (target / 'Proof.antt').exists():

@@ -37,7 +37,7 @@ pub shape_of-dst-then-r-eq0 : goal.shape_of-dst-then-r-eq0
 shape_of-dst-then-r-eq0 c =
     omega (
   arith,
-  c.round-r.auto.dst.0,
+  c.round-r.auto.dst,
   c.loop-r.invariant.same,
 )
 
@@ -49,8 +49,8 @@ returns-then-r-eq0 c =
     let a = up.args in
     let z = c in
     let o = framed_open largest a.codec a.src.now a.staging.now a.dst.now z.if-codec.false (omega (arith, z.if-staging-codec.false)) in (
-      head_last a.staging.now a.dst.now a.codec a.src.now l.staging l.dst l.at l.st l.invariant t.result t.new.0
-          t.new.1.0 t.ensures c.if-r-eq0.true ∙ sym o,
+      head_last a.staging.now a.dst.now a.codec a.src.now l.staging l.dst l.at l.st l.invariant t.result t.new.staging
+          t.new.dst t.ensures c.if-r-eq0.true ∙ sym o,
       λ k. never a.codec.closed z.if-codec.false k,
       λ h. absurd (omega (arith, h, z.if-staging-codec.false)),
     )
@@ -64,7 +64,7 @@ overflow_add-at c =
     let a = start.args in
     let u =
     used_in a.staging.now a.dst.now a.codec a.src.now l.staging l.dst l.at l.st l.invariant
-    t.result t.new.0 t.new.1.0 t.ensures in
+    t.result t.new.staging t.new.dst t.ensures in
     omega (arith, u, start.well_formed)
 
 pub loop-r-smaller : goal.loop-r-smaller
@@ -76,7 +76,7 @@ loop-r-smaller c =
     omega (
       arith,
       used_in a.staging.now a.dst.now a.codec a.src.now l.staging l.dst l.at l.st l.invariant t.result
-          t.new.0 t.new.1.0 t.ensures,
+          t.new.staging t.new.dst t.ensures,
       c.if-r-eq0.false,
     )
 
@@ -86,5 +86,5 @@ loop-r-preserved c =
     let l = c.loop-r in
     let up = c in
     let a = up.args in
-    head_more a.staging.now a.dst.now a.codec a.src.now l.staging l.dst l.at l.st l.invariant t.result t.new.0
-    t.new.1.0 t.ensures c.if-r-eq0.false t.auto.0 t.auto.1.0
+    head_more a.staging.now a.dst.now a.codec a.src.now l.staging l.dst l.at l.st l.invariant t.result t.new.staging
+    t.new.dst t.ensures c.if-r-eq0.false t.auto.staging t.auto.dst

@@ -14,7 +14,7 @@ overflow_sub-left c =
     let d = c.decode_with-d in
     let s = c in
     let a = s.args in
-    drain_fits a.codec a.staging.now a.dst.now d.new.0
+    drain_fits a.codec a.staging.now a.dst.now d.new.dst
     c.last_number-last.result
     p.plain_of.result d.result s.requires
     p.plain_of.ensures d.ensures
@@ -25,7 +25,7 @@ shift_left-requires c =
     let d = c.decode_with-d in
     let s = c in
     let a = s.args in
-    let f = drain_fits a.codec a.staging.now a.dst.now d.new.0
+    let f = drain_fits a.codec a.staging.now a.dst.now d.new.dst
     c.last_number-last.result
     p.plain_of.result d.result s.requires
     p.plain_of.ensures d.ensures in

@@ -8,8 +8,8 @@ pub returns-then-not-codec : goal.returns-then-not-codec
 returns-then-not-codec c =
     let a = c.args in
     let f = c.frame in
-    round_empty a.codec a.src.now a.staging.now a.dst.now (done_of f.result f.new.0 a.dst.now)
-    c.if-codec-eq0.true (c.if-not-codec.true) (f.ensures a.dst.now)
+    round_empty a.codec a.src.now a.staging.now a.dst.now (done_of f.result f.new.staging a.dst.now)
+    c.if-codec-eq0.true (not-true _ c.if-not-codec.true) (f.ensures a.dst.now)
 
 pub frame-requires-then-wants : goal.frame-requires-then-wants
 frame-requires-then-wants c =
@@ -18,8 +18,8 @@ frame-requires-then-wants c =
     let a = p.args in
     omega (
       arith,
-      less a.codec a.src.now a.staging.now a.dst.now d.new.0 d.new.1.0 d.result d.ensures,
-      d.auto.0,
+      less a.codec a.src.now a.staging.now a.dst.now d.new.staging d.new.dst d.result d.ensures,
+      d.auto.staging,
       p.requires,
     )
 
@@ -29,14 +29,14 @@ returns-then-wants c =
     let up = c in
     let a = up.args in
     let f = c.frame-then-wants in
-    round_frame a.codec a.src.now a.staging.now a.dst.now d.new.0 d.new.1.0 d.result d.ensures
-    (done_of f.result f.new.0 d.new.1.0)
-    (sym c.wants.ensures ∙ c.if-wants.true) d.auto.0
-    (f.ensures d.new.1.0)
+    round_frame a.codec a.src.now a.staging.now a.dst.now d.new.staging d.new.dst d.result d.ensures
+    (done_of f.result f.new.staging d.new.dst)
+    (sym c.wants.ensures ∙ c.if-wants.true) d.auto.staging
+    (f.ensures d.new.dst)
 
 pub returns : goal.returns
 returns c =
     let d = c.drain-d in
     let a = c.args in
-    round_stop a.codec a.src.now a.staging.now a.dst.now d.new.staging d.new.1.0 d.result d.ensures
+    round_stop a.codec a.src.now a.staging.now a.dst.now d.new.staging d.new.dst d.result d.ensures
     (sym c.wants.ensures ∙ c.if-wants.false)

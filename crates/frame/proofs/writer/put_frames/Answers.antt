@@ -17,7 +17,7 @@ loop-left-preserved c =
     let f = c.put_frame in
     rw c.wrapping_add_u8-number.ensures.value
     (head_more a.dst.now a.first a.total a.piece l.dst l.left l.out l.from l.number l.invariant f.new.dst (omega arith)
-    f.auto.0 f.ensures)
+    f.auto.dst f.ensures)
 
 pub returns : goal.returns
 unfolding next

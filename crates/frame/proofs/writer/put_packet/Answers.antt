@@ -19,6 +19,6 @@ returns c =
     let g = c.put_chunks in
     let some : 0 < a.n = omega (arith, q.1) in (
       f.ensures.0,
-      packet_put a.piece a.first a.plain a.n a.count a.packet.now a.dst.now g.new.dst f.new.0 q.0
+      packet_put a.piece a.first a.plain a.n a.count a.packet.now a.dst.now g.new.dst f.new.dst q.0
           q.1 some q.2 q.3 g.ensures.1 f.ensures.1,
     )
