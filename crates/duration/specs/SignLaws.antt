@@ -1,6 +1,6 @@
 -- Signed numbers made by negation of a bounded size, over the width: -k and -1 - k.
-use Rattle.std.specs.Prelude.{◌≡◌, refl, ℕ, zero, suc, ◌+◌, ◌-◌, ◌≤◌, ◌<◌, ◌^◌, true, false, ℤ, pos, negsuc, neg_ℤ, ◌-ℤ◌, ◌+ℤ◌}
-use Rattle.std.proofs.Common.{sym, ap, ◌∙◌, subst, zero-add, arith, le-ltb, ltb-true, pow_pos, to_z-of_z}
+use Rattle.std.specs.Prelude.{◌≡◌, refl, ℕ, zero, suc, ◌-◌, ◌<◌, ◌^◌, true, false, ℤ, pos, negsuc, neg_ℤ, ◌-ℤ◌}
+use Rattle.std.proofs.Common.{sym, ap, ◌∙◌, subst, zero-add, arith, le-ltb, ltb-true, to_z-of_z}
 use Rattle.std.proofs.Math.IntN.{+ℤ_idl}
 use Rattle.std.specs.Int.Signed.{lt_z, mag}
 use Rattle.std.specs.Int.{Width, w64}
@@ -47,7 +47,7 @@ less_zero n h = absurd (omega (arith, ltb-true n 0 h))
 
 module _ (z : ℤ) (f : mag z < 9223372036854775808) where
   same : to_z w64 (of_z w64 z) ≡ z
-  same = to_z-of_z (record { sfits = f })
+  same = to_z-of_z {w = w64} (record { sfits = f })
 
   -- a negative number: what -1 - z is, and what it tells of z
   module _ (h : lt_z (to_z w64 (of_z w64 z)) (pos 0) ≡ true) where

@@ -8,40 +8,68 @@ loop-at-init c = counting_begins c.args.limit c.args.capture.now
 pub round_at-r-requires : goal.round_at-r-requires
 round_at-r-requires c = c.loop-at.invariant.within
 
--- a round has no more stretches than bytes, and ends within the capture
-few : (c : goal.After-some-in-loop-at)
-    → (c.some.result + c.some-in-loop-at.result ≤ c.round_at-r.result.bytes + c.round_at-r.result.lost)
-    × (c.loop-at.n ≤ c.loop-at.at)
-    × (c.loop-at.at + (c.round_at-r.result.bytes + c.round_at-r.result.lost)
-    ≤ length c.args.capture.now)
-few c =
+-- In the sums: a round has no more stretches than bytes, and ends within the capture.
+
+pub overflow_add-n : goal.overflow_add-n
+overflow_add-n c =
     let q = c in
     let l = q.loop-at in
-    let a = q.args in (
+    let a = q.args in
+    omega (
+      arith,
       count_few a.limit a.capture.now l.n l.at l.invariant q.round_at-r.result q.round_at-r.ensures c.some.result
           c.some-in-loop-at.result c.some.ensures c.some-in-loop-at.ensures,
-      l.invariant.few,
       round_within a.limit a.capture.now l.at q.round_at-r.result q.round_at-r.ensures l.invariant.within,
     )
 
-pub overflow_add-n : goal.overflow_add-n
-overflow_add-n c = omega (arith, few c)
-
 pub overflow_add-n-in-loop-at : goal.overflow_add-n-in-loop-at
-overflow_add-n-in-loop-at c = omega (arith, few c)
+overflow_add-n-in-loop-at c =
+    let q = c in
+    let l = q.loop-at in
+    let a = q.args in
+    omega (
+      arith,
+      count_few a.limit a.capture.now l.n l.at l.invariant q.round_at-r.result q.round_at-r.ensures c.some.result
+          c.some-in-loop-at.result c.some.ensures c.some-in-loop-at.ensures,
+      round_within a.limit a.capture.now l.at q.round_at-r.result q.round_at-r.ensures l.invariant.within,
+    )
 
 pub overflow_add-at : goal.overflow_add-at
-overflow_add-at c = omega (arith, few c)
+overflow_add-at c =
+    let q = c in
+    let l = q.loop-at in
+    let a = q.args in
+    omega (
+      arith,
+      count_few a.limit a.capture.now l.n l.at l.invariant q.round_at-r.result q.round_at-r.ensures c.some.result
+          c.some-in-loop-at.result c.some.ensures c.some-in-loop-at.ensures,
+      round_within a.limit a.capture.now l.at q.round_at-r.result q.round_at-r.ensures l.invariant.within,
+    )
 
 pub overflow_add-at-in-loop-at : goal.overflow_add-at-in-loop-at
-overflow_add-at-in-loop-at c = omega (arith, few c)
+overflow_add-at-in-loop-at c =
+    let q = c in
+    let l = q.loop-at in
+    let a = q.args in
+    omega (
+      arith,
+      count_few a.limit a.capture.now l.n l.at l.invariant q.round_at-r.result q.round_at-r.ensures c.some.result
+          c.some-in-loop-at.result c.some.ensures c.some-in-loop-at.ensures,
+      round_within a.limit a.capture.now l.at q.round_at-r.result q.round_at-r.ensures l.invariant.within,
+    )
 
 pub loop-at-smaller : goal.loop-at-smaller
 loop-at-smaller c =
     let q = c in
     let l = q.loop-at in
     let a = q.args in
-    omega (arith, few c, round_onward a.limit a.capture.now l.at q.round_at-r.result q.round_at-r.ensures q.loop-at-test.true)
+    omega (
+      arith,
+      count_few a.limit a.capture.now l.n l.at l.invariant q.round_at-r.result q.round_at-r.ensures c.some.result
+          c.some-in-loop-at.result c.some.ensures c.some-in-loop-at.ensures,
+      round_within a.limit a.capture.now l.at q.round_at-r.result q.round_at-r.ensures l.invariant.within,
+      round_onward a.limit a.capture.now l.at q.round_at-r.result q.round_at-r.ensures q.loop-at-test.true,
+    )
 
 pub loop-at-preserved : goal.loop-at-preserved
 loop-at-preserved c =

@@ -34,15 +34,15 @@ loop-left-preserved c =
     let k = c in
     let l = k.loop-left in
     let a = k.args in
-    let n = c.n-1 in (
+    let took = c.in-Took in (
       omega (
         arith,
         l.invariant.0,
         step-within a.limit l.expected a.capture.now l.at k.chunk_at.result k.chunk_at.ensures
-            n.given.0.0 n.given.1,
+            took.n took.is,
       ),
       sym (follow_on a.limit a.capture.now l.at l.expected l.left k.loop-left-test.true k.chunk_at.result k.chunk_at.ensures
-          n.given.0.0 c.wrapping_add_u8-expected.result n.given.1 c.wrapping_add_u8-expected.ensures.value) ∙ l.invariant.1,
+          took.n c.wrapping_add_u8-expected.result took.is c.wrapping_add_u8-expected.ensures.value) ∙ l.invariant.1,
     )
 
 pub returns : goal.returns

@@ -12,7 +12,7 @@ put-requires c =
     let p = c in
     let b = p in
     let a = b.args in
-    lost_room a.at a.r a.out.now a.i b.requires.0 p.put-next.result p.put-next.new.ends p.put-next.ensures.0 p.put-next.auto.ends
+    lost_room a.at a.r a.out.now a.i b.requires.0 p.put-next.result p.put-next.new.out p.put-next.ensures.0 p.put-next.auto.out
 
 pub returns : goal.returns
 returns c =
@@ -20,5 +20,5 @@ returns c =
     let p = p2 in
     let b = p in
     let a = b.args in
-    put_both a.at a.r a.out.now a.i b.requires.0 p.put-next.result p2.put.result p.put-next.new.ends p2.put.new.ends
+    put_both a.at a.r a.out.now a.i b.requires.0 p.put-next.result p2.put.result p.put-next.new.out p2.put.new.out
     p.put-next.ensures.0 p.put-next.ensures.1 p2.put.ensures.0 p2.put.ensures.1

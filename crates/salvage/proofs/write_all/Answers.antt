@@ -45,7 +45,7 @@ loop-at-preserved c =
     let a = q.args in
     let p = c.put_round-i in
     writing_turn a.limit a.capture.now a.out.now l.out l.i l.at l.invariant q.round_at-r.result q.round_at-r.ensures
-    p.result p.new.out p.ensures.0 p.ensures.1 p.auto.0
+    p.result p.new.out p.ensures.0 p.ensures.1 p.auto.out
 
 pub shape_of-out : goal.shape_of-out
 shape_of-out c = c.loop-at.invariant.kept
