@@ -1,4 +1,3 @@
 pub mod Record
 pub mod RecordLaws
 pub mod RoundTrip
-pub mod RoundTripLaws

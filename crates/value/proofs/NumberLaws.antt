@@ -45,8 +45,8 @@ module _ (k : ℕ) (lo : 1 ≤ k) (hi : k ≤ 8) where
 -- ---- floats
 
 module _ (f : Format) (n : ℕ) where
-  pub is_nan : ones f * hid f < n % top f → nan_bits f n ≡ true
-  is_nan h = nan_bits_above f n ∙ lt-ltb _ _ h
+  pub is_nan_lem : ones f * hid f < n % top f → nan_bits f n ≡ true
+  is_nan_lem h = nan_bits_above f n ∙ lt-ltb _ _ h
 
   pub is_number : n % top f ≤ ones f * hid f → nan_bits f n ≡ false
   is_number h = nan_bits_above f n ∙ le-ltb _ _ h
@@ -58,8 +58,8 @@ no_nan nan h = let z : true ≡ false = sym nan_differs ∙ h in subst (λ (b : 
 no_nan (inf s) h = tt
 no_nan (fin s m e) h = tt
 
-pub nan_bits : (f : Format) (x : Float) → Ieee.ne x x ≡ true → to_bits f nan ≡ to_bits f x
-nan_bits f x h = ap (to_bits f) (sym (differs_from_itself x (subst T (sym h) tt)))
+pub nan_bits_lem : (f : Format) (x : Float) → Ieee.ne x x ≡ true → to_bits f nan ≡ to_bits f x
+nan_bits_lem f x h = ap (to_bits f) (sym (differs_from_itself x (subst T (sym h) tt)))
 
 -- ---- the bits of a signed number
 

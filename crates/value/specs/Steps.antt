@@ -2,7 +2,7 @@
 use Rattle.std.specs.Prelude.{◌≡◌, cond, List, ℕ, ◌+◌, ◌≤◌, ◌<◌, eqb, length, get_or}
 use Rattle.std.proofs.Math.Path.{refl, ap}
 use Rattle.std.proofs.Common.{◌∙◌, arith, add-zero, le-leb}
-use Rattle.refusal.specs.Said.{Said, gives, refused}
+use Rattle.refusal.specs.Said.{Said, refused}
 use Rattle.wire.specs.LenEnc.{str_at, byte_str_at, within}
 use Rattle.wire.specs.declared.LenEncStr.{LenEncStr}
 use Rattle.value.specs.Kinds.{kind_of}

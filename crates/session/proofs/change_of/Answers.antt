@@ -3,7 +3,6 @@ use Rattle.session.specs.RecordLaws.{string_change, same_one}
 use mathlib.Core.Path.{ap}
 use Rattle.wire.specs.LenEnc.{part_of}
 use borrow.Author.Tests.{ne_eqb}
-use borrow.Author.Rules.{rules}
 use Rattle.session.proofs.change_of.Goals as goal
 
 pub returns-in-1 : goal.returns-in-1

@@ -2,7 +2,6 @@ use Rattle.session.specs.RecordLaws.{str_in, variable_end, variable_pair}
 use native.Mathlib.Omega.{arith}
 use mathlib.Core.Path.{sym}
 use Prim.Native.Nat.{◌+◌}
-use borrow.Author.Rules.{rules}
 use Rattle.session.proofs.next_variable.Goals as goal
 
 pub returns-then-at-s : goal.returns-then-at-s

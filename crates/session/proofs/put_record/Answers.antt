@@ -1,4 +1,3 @@
-use borrow.Author.Rules.{rules}
 use Rattle.session.proofs.put_record.Goals as goal
 
 pub returns-in-SystemVariables : goal.returns-in-SystemVariables
@@ -10,9 +9,9 @@ returns-in-Schema c = rw c.in-Schema.is c.put_string.ensures
 pub returns-then-tracked : goal.returns-then-tracked
 returns-then-tracked c =
     rw (
-  c.in-IsTracked.is,
-  c.if-tracked.true,
-) c.put_slice-then-tracked.ensures
+      c.in-IsTracked.is,
+      c.if-tracked.true,
+    ) c.put_slice-then-tracked.ensures
 
 pub returns-else-tracked : goal.returns-else-tracked
 returns-else-tracked c =

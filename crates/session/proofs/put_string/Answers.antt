@@ -1,4 +1,3 @@
-use borrow.Author.Rules.{rules}
 use Rattle.session.proofs.put_string.Goals as goal
 
 pub returns : goal.returns

@@ -5,7 +5,6 @@ use Rattle.wire.specs.LenEnc.{str_bytes}
 use lib.ListN.{length, length-append}
 use native.Mathlib.Omega.{arith}
 use Prim.Native.Nat.{◌+◌}
-use borrow.Author.Rules.{rules}
 use Rattle.session.proofs.put_variable.Goals as goal
 
 pub overflow_add-next : goal.overflow_add-next

@@ -1,7 +1,6 @@
 use Rattle.session.specs.RecordLaws.{string_change}
 use Rattle.session.specs.Record.{record_at}
 use borrow.Author.Tests.{ne_eqb}
-use borrow.Author.Rules.{rules}
 use Rattle.session.proofs.read_record.Goals as goal
 
 pub returns-in-0 : goal.returns-in-0

@@ -5,7 +5,6 @@ use Rattle.session.specs.Record.{record_of}
 use Rattle.session.specs.RecordLaws.{str_in}
 use native.Mathlib.Omega.{arith}
 use mathlib.Core.Path.{sym, ap}
-use borrow.Author.Rules.{rules}
 use Rattle.session.proofs.read_string.Goals as goal
 
 pub overflow_add-used : goal.overflow_add-used
