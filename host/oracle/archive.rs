@@ -6,12 +6,12 @@ pub fn link() {
     println!("cargo::rustc-check-cfg=cfg(archive)");
     println!("cargo::rustc-check-cfg=cfg(packets)");
     println!("cargo::rerun-if-env-changed=MISHKELDUR_ARCHIVE");
-    let given = env::var("MISHKELDUR_ARCHIVE").unwrap_or_else(|_| "../../target/staticlib/libmishkeldur.a".into());
+    let given = env::var("MISHKELDUR_ARCHIVE").unwrap_or_else(|_| "../../crates/mishkeldur/out/libmishkeldur.a".into());
     if given == "none" {
         return;
     }
     let Ok(archive) = PathBuf::from(&given).canonicalize() else {
-        panic!("no archive at {given}: make it with `rt staticlib mishkeldur` in the repository's root, or set MISHKELDUR_ARCHIVE");
+        panic!("no archive at {given}: make it with `rt lib` in crates/mishkeldur, or set MISHKELDUR_ARCHIVE");
     };
     println!("cargo::rerun-if-changed={}", archive.display());
     println!("cargo::rustc-link-arg-bins={}", archive.display());

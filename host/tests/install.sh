@@ -19,7 +19,7 @@ try() { # compiler, standard, file
     echo "install: $1: $got"
 }
 
-$make -s install PREFIX="$work/prefix" ARCHIVE="${ARCHIVE:-../target/staticlib/libmishkeldur.a}" > /dev/null
+$make -s install PREFIX="$work/prefix" ARCHIVE="${ARCHIVE:-../crates/mishkeldur/out/libmishkeldur.a}" > /dev/null
 cp examples/first.c "$work/first.c"
 cp examples/first.c "$work/first.cc"
 PKG_CONFIG_PATH="$work/prefix/lib/pkgconfig"
@@ -30,7 +30,7 @@ try g++ -std=c++17 first.cc
 try clang++ -std=c++17 first.cc
 
 # Staged: the files go below DESTDIR, and the .pc names the prefix alone.
-$make -s install PREFIX=/opt/mk DESTDIR="$work/stage" ARCHIVE="${ARCHIVE:-../target/staticlib/libmishkeldur.a}" > /dev/null
+$make -s install PREFIX=/opt/mk DESTDIR="$work/stage" ARCHIVE="${ARCHIVE:-../crates/mishkeldur/out/libmishkeldur.a}" > /dev/null
 grep -qx 'prefix=/opt/mk' "$work/stage/opt/mk/lib/pkgconfig/mishkeldur.pc" || { echo "install: the staged .pc names another prefix"; exit 1; }
 [ "$(find "$work/stage" -type f | wc -l)" = 3 ] || { echo "install: not three files staged"; exit 1; }
 echo "install: passed"
