@@ -9,11 +9,11 @@ use Rattle.wire.specs.RoomLaws.{cut_later}
 use Rattle.session.specs.Record.{bytes_of, record_bytes}
 use Rattle.session.specs.RoundTrip.{ReadsBack, NameValue, pairs_bytes}
 use Rattle.session.specs.RoundTrip as Pairs
-use Rattle.session.specs.RoundTripLaws.{schema_back, tracked_back, gtids_back, characteristics_back, state_back, unsupported_back, variables_back, pairs_back}
+use Rattle.session.proofs.RoundTripLaws.{schema_back, tracked_back, gtids_back, characteristics_back, state_back, unsupported_back, variables_back, pairs_back}
 use Rattle.session.specs.declared.SessionStateChange.{SessionStateChange}
 use Rattle.session.specs.declared.SessionStateChange.TheVariants as Of
 use Rattle.answer.specs.Answer.{tracks}
-use Rattle.answer.specs.Records.{handing, handed_of, one, end, next_in, next_at}
+use Rattle.answer.specs.Records.{handing, handed_of, one, next_in, next_at}
 use Rattle.answer.specs.RecordsLaws.{handed_digit, handed_long, handed_other, next_end, next_one, next-within}
 use Rattle.answer.specs.Written.{holds_length, record_on_wire, ok_bytes}
 use Rattle.answer.specs.RoundTrip.{as_handed, HandedOn, ReadsOn, Typed, Kept, records_bytes, Fit, gather, OkBack}

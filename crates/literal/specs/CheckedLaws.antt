@@ -1,8 +1,9 @@
 -- How the checker's walk goes: by items of the grammar, up to the closing quote or to the place where it stops.
 use Rattle.std.specs.Prelude.{ℕ, ◌≡◌, refl, Bool, true, false, cond, List, [], ◌∷◌, ◌++◌, length, eqb}
-use Rattle.std.proofs.Common.{arith, true≢false, eqb-true, ne_eqb}
+use Rattle.std.proofs.Common.{arith, sym, ap, ◌∙◌, true≢false, eqb-true, ne_eqb}
 use Rattle.std.proofs.lemmas.Bool.{eqb-false}
 use Rattle.escape.specs.Quote.{quote, backslash}
+use Rattle.escape.specs.Meaning.{escape_means}
 use Rattle.literal.specs.Grammar.{Item, itself, doubled, escape}
 use Rattle.literal.specs.Checked.{Verdict, means, bad, also, inside}
 
@@ -28,7 +29,7 @@ unfolding inside
 item_reads (itself c n o) [] = simp (ne_eqb c quote n)
 item_reads {m} (itself c n o) (x ∷ s) = simp (ne_eqb c quote n, backslash_not m c o)
 item_reads doubled s = refl
-item_reads (escape c e) s = rw e
+item_reads {m} (escape c e) s = ap (λ (n : Bool). inside n (backslash ∷ c ∷ s)) e ∙ sym (ap (λ (n : Bool). also 2 (escape_means c) (inside n s)) e)
 
 -- the walk over some bytes and the verdict on them
 pub data Reading (m : Bool) : List ℕ → Verdict → Type 0 where

@@ -92,7 +92,10 @@ pair_reads m b c t bs h e = special m b h at_quote at_backslash
     at_quote q = whether c quote (λ f. rw (q, f)) (λ n. absurd (means_not_bad (sym (simp (q, ne_eqb c quote n) at e))))
 
     at_backslash : m ≡ false → b ≡ backslash → inside m (b ∷ c ∷ t) ≡ also 2 (escape_means c) (inside m t)
-    at_backslash f q = rw (f, q)
+    at_backslash f q =
+        ap (λ (n : Bool). inside n (b ∷ c ∷ t)) f
+        ∙ ap (λ (x : ℕ). inside false (x ∷ c ∷ t)) q
+        ∙ sym (ap (λ (n : Bool). also 2 (escape_means c) (inside n t)) f)
 
 module _ (m : Bool) (s : List ℕ) (at : ℕ) (l : at + 1 < length s) (k : clean (first_of m) (get_or s at 0) ≡ false) (h : Sound m s at) where
   pair_split : Sound m s (at + 1 + 1) × (rest m s at ≡ escape_means (get_or s (at + 1) 0) ++ rest m s (at + 1 + 1))

@@ -1,15 +1,14 @@
 -- Laws of bits, over the width.
-use mathlib.Core.Path.{◌≡◌, refl, sym, ap, ap₂, ◌∙◌}
+use mathlib.Core.Path.{◌≡◌, refl, sym, ap, ◌∙◌}
 use mathlib.Core.Bool.{Bool}
 use mathlib.Core.List.{List}
 use Prim.Native.Nat.{ℕ, zero, suc, ◌+◌, ◌*◌, ◌/◌, ◌%◌, ◌≤◌, ◌<◌, ◌^◌, ◌-◌}
 use native.Mathlib.Omega.{arith}
-use native.Mathlib.Nat.{add-zero, add-suc, add_comm, mod-lt, mod-one, le_refl, mul-one, one-mul}
-use native.Mathlib.Numerals.{add-one}
+use native.Mathlib.Nat.{add-zero, add-suc, add_comm, mod-lt, mod-one, one-mul}
 use borrow.Author.Tests.{lt-ltb, le-ltb, le-leb, lt-leb}
 use lib.ListN.{length, get_or}
 use lib.Dec.{eqb}
-use lib.Pow.{pow_pos, pow_mono, shl_exact, shr-shr, mod-pow-add}
+use lib.Pow.{pow_pos, shl_exact, shr-shr, mod-pow-add}
 use lib.Bits.{bit_and, and_high}
 use lib.Count.{ones, ones_cat, ones-le}
 use Rattle.refusal.specs.Said.{gives, refused}

@@ -1,13 +1,11 @@
 -- Any two answers, and any two lists left, that the contracts allow are equal.
 use mathlib.Core.Path.{◌≡◌, sym, ap, ◌∙◌}
-use mathlib.Core.Bool.{Bool}
 use mathlib.Core.List.{List}
 use Prim.Native.Nat.{ℕ}
 use Rattle.refusal.specs.Number.{number_same}
 use Rattle.refusal.specs.Said.{gives_same, refused_same, gives_not_refused}
 use Rattle.row.specs.Nulls.{offset_of, null_at, null_said, count_at, count_said}
 use Rattle.row.specs.Row.{RowEnd, Rowed, row_said, row_of, params_of}
-use Rattle.row.specs.declared.Columns.{Columns}
 use Rattle.row.specs.declared.Side.{Side}
 use Rattle.row.specs.declared.ReadNull.{ReadNull}
 use Rattle.row.specs.declared.ReadNull.TheVariants as B

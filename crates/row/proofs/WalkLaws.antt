@@ -7,9 +7,8 @@ use native.Mathlib.Omega.{arith}
 use native.Mathlib.Nat.{add-zero, zero-add, sub-zero, mul-zero, mul-one}
 use native.Mathlib.Decide.{ℕ_discrete}
 use native.Mathlib.Numerals.{add-one}
-use lib.ListN.{length, get_or, take, drop, set}
+use lib.ListN.{length, get_or, drop, set}
 use lib.Seq.{sets, sets-eq}
-use lib.Dec.{eqb}
 use borrow.Author.Tests.{eq-eqb, ne_eqb, le-leb}
 use Rattle.refusal.specs.Said.{Said, gives, refused}
 use Rattle.refusal.specs.Number.{number}

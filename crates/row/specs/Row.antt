@@ -1,7 +1,7 @@
 -- Binary rows and parameter lists, by 01's "Values". s the bytes, ts the types, us the signs, d the lent list of starts.
 use Rattle.std.specs.Prelude.{ℕ, ◌+◌, ◌≡◌, cond, List, length, get_or, take, drop, leb, ltb, eqb}
 use Rattle.refusal.specs.Number.{number}
-use Rattle.refusal.specs.Said.{Said, gives, refused, check, and_then}
+use Rattle.refusal.specs.Said.{Said, gives, refused}
 use Rattle.row.specs.Nulls.{null_count, map_size}
 use Rattle.row.specs.Walk.{walk, over}
 use Rattle.row.specs.declared.Columns.{Columns}

@@ -4,7 +4,7 @@ use Rattle.std.proofs.Math.Path.{refl}
 use Rattle.std.proofs.Common.{sym, ap, ◌∙◌, arith, add-zero, zero-add, eq-eqb, ne_eqb, leb-true, take_at, drop_at}
 use Prim.Native.Nat.{ℕ, zero, suc, ◌+◌, ◌≤◌, ◌<◌}
 use Rattle.std.proofs.Math.ListN.{get_or-append}
-use Rattle.refusal.specs.Said.{Said, gives, refused, check, and_then, gives_same, gives_not_refused}
+use Rattle.refusal.specs.Said.{Said, gives, refused, and_then, gives_same, gives_not_refused}
 use Rattle.wire.specs.LenEncLaws.{within-fits, str_within, byte_str_within}
 use Rattle.wire.specs.declared.LenEncStr.{LenEncStr}
 use Rattle.value.specs.Kinds.{kind_of}
@@ -13,7 +13,6 @@ use Rattle.value.specs.ValueLaws.{next_skip}
 use Rattle.value.specs.declared.GotValue.{GotValue}
 use Rattle.value.specs.declared.Kind.{Kind}
 use Rattle.value.specs.declared.Kind.TheVariants as K
-use Rattle.value.specs.declared.Value.{Value}
 use Rattle.row.specs.Nulls.{null_bit, null_count, map_size}
 use Rattle.row.specs.Walk.{Walk, col_at, onward, walk, over}
 use Rattle.row.specs.Row.{RowEnd, columns_of, stopped, ended, values_of, listed, row_of, params_of}
