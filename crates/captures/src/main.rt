@@ -3,8 +3,11 @@
 // the number of the refusal that began it. Of a longer capture the first 65,536 bytes are reported, and standard error says so.
 #![tactic(auto)]
 
-use libc::{STDERR_FILENO, STDOUT_FILENO};
 use salvage::Salvaged;
+
+const STDERR_FILENO: i32 = 2;
+
+const STDOUT_FILENO: i32 = 1;
 
 const LIMIT: usize = 61_440;
 

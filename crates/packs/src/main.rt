@@ -4,9 +4,10 @@
 // Whatever differs is printed by its name.
 #![tactic(auto)]
 
-use libc::STDOUT_FILENO;
 use pack::{Judged, Planned};
 use refusal::number_of;
+
+const STDOUT_FILENO: i32 = 1;
 
 // Two lists that are not drawn: every row of one byte, every row of 2^32 - 1.
 const ONES: usize = 100_001;

@@ -5,9 +5,10 @@
 #![tactic(auto)]
 
 use chunk::{Answer, Opened, PlainPacketCodec};
-use libc::STDOUT_FILENO;
 use salvage::Salvaged;
 use wire::part;
+
+const STDOUT_FILENO: i32 = 1;
 
 const LIMIT: usize = 61_440;
 

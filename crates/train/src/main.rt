@@ -7,9 +7,10 @@
 ghost use Rattle.std.specs.Prelude.{◌≤◌, ◌<◌};
 
 use duration::{Duration, ReadTime};
-use libc::STDOUT_FILENO;
 use refusal::Refusal;
 use wire::ReadStr;
+
+const STDOUT_FILENO: i32 = 1;
 
 // Puts a train behind those that leave no later.
 fn enqueue(offsets: &mut [i64; 32], places: &mut [usize; 32], n: usize, offset: i64, place: usize)

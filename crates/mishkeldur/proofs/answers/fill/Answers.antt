@@ -1,0 +1,41 @@
+use Rattle.std.proofs.Common.{[], ◌∷◌, arith, length-set, rules}
+use lib.Seq.{sets-eq}
+use Rattle.mishkeldur.proofs.answers.fill.Goals as goal
+
+pub bounds-out-1 : goal.bounds-out-1
+bounds-out-1 c = simp length-set (omega arith)
+
+pub bounds-out-2 : goal.bounds-out-2
+bounds-out-2 c = simp length-set (omega arith)
+
+pub bounds-out-3 : goal.bounds-out-3
+bounds-out-3 c = simp length-set (omega arith)
+
+pub bounds-out-4 : goal.bounds-out-4
+bounds-out-4 c = simp length-set (omega arith)
+
+pub bounds-out-5 : goal.bounds-out-5
+bounds-out-5 c = simp length-set (omega arith)
+
+pub bounds-out-6 : goal.bounds-out-6
+bounds-out-6 c = simp length-set (omega arith)
+
+pub bounds-out-7 : goal.bounds-out-7
+bounds-out-7 c = simp length-set (omega arith)
+
+pub bounds-out-8 : goal.bounds-out-8
+bounds-out-8 c = simp length-set (omega arith)
+
+pub bounds-out-9 : goal.bounds-out-9
+bounds-out-9 c = simp length-set (omega arith)
+
+pub bounds-out-10 : goal.bounds-out-10
+bounds-out-10 c = simp length-set (omega arith)
+
+pub returns : goal.returns
+returns c =
+    let a = c.args in
+    sets-eq
+    (a.kind ∷ a.used ∷ a.status ∷ a.warnings ∷ a.rows ∷ a.id ∷ a.code
+    ∷ a.message_at ∷ a.message_len ∷ a.part_at ∷ a.part_len ∷ [])
+    a.out.now 0 c.requires

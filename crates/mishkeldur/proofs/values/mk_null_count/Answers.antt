@@ -1,0 +1,14 @@
+use Rattle.std.proofs.Common.{refl, rules}
+use Rattle.mishkeldur.proofs.values.mk_null_count.Goals as goal
+
+pub returns-in-Done : goal.returns-in-Done
+returns-in-Done c =
+    let m = c in
+    let e = rw (m.in-Done.is, m.side_of.ensures) at m.null_count.ensures in
+    rw (← e) (refl, refl)
+
+pub returns-in-Refused : goal.returns-in-Refused
+returns-in-Refused c =
+    let m = c in
+    let e = rw (m.in-Refused.is, m.side_of.ensures) at m.null_count.ensures in
+    rw (← e) (c.number_of.ensures, refl)

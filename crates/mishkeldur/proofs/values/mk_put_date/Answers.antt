@@ -1,0 +1,6 @@
+use Rattle.mishkeldur.proofs.FaceLaws.{puts}
+use Rattle.std.proofs.Common.{rules}
+use Rattle.mishkeldur.proofs.values.mk_put_date.Goals as goal
+
+pub returns : goal.returns
+returns c = puts _ c.serialize.ensures c.put_status.ensures

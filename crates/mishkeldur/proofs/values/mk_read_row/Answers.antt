@@ -1,0 +1,12 @@
+use Rattle.std.proofs.Common.{refl, rules}
+use Rattle.mishkeldur.proofs.values.mk_read_row.Goals as goal
+
+pub returns-in-Done : goal.returns-in-Done
+returns-in-Done c =
+    let e = c.read_row.ensures in
+    rw (← (rw c.in-Done.is at e.said)) (refl, e.left, refl, refl)
+
+pub returns-in-Refused : goal.returns-in-Refused
+returns-in-Refused c =
+    let e = c.read_row.ensures in
+    rw (← (rw c.in-Refused.is at e.said)) (c.number_of.ensures, e.left, refl, refl)
