@@ -4,15 +4,18 @@
 // wanted, those of a connection as long as its limit asks for.
 #![tactic(auto)]
 
-ghost use Rattle.std.specs.Prelude.{◌<◌, ◌≤◌};
+ghost use Rattle.std.specs.Prelude.{◌<◌, ◌≤◌, length};
 
 use codec::{Got, Opened};
 use duration::Time;
 use frame::PacketCodec;
-use libc::STDOUT_FILENO;
 use refusal::Refusal;
+use std::fs::File;
+use std::io::Read;
 use value::{Date, GotValue, ReadValue, Value};
 use wire::{Put, ReadInt, ReadNum, ReadStr, part};
+
+const STDOUT_FILENO: i32 = 1;
 
 // ---- numbers of the file, low byte first; 0 past its end
 
@@ -515,18 +518,30 @@ fn run(file: &[u8]) {
     say(b"differences ", count);
 }
 
-fn load(buffer: &mut [u8]) {
-    let fd = os::open_read(b"answers");
-    if fd < 0 {
-        os::fail(b"answers");
-        return;
+// Reads until the buffer is full, the file ends or a read fails; answers how many bytes it put at the buffer's start.
+fn read_full(file: &File, buf: &mut [u8]) -> usize
+    ensures { result ≤ length buf.new }
+{
+    let mut reader = file;
+    let mut done = 0;
+    while done < buf.len() {
+        let n = reader.read(&mut buf[done..]).unwrap_or(0);
+        if n == 0 {
+            return done;
+        }
+        done += n;
     }
-    let size = io::read_full(fd, buffer);
-    libc::close(fd);
-    run(part(buffer, 0, size));
+    done
 }
 
-fn main() {
+fn load(rt: &HostRuntime, buffer: &mut [u8]) -> std::io::Result<()> {
+    let input = File::open(rt, "answers")?;
+    let size = read_full(&input, buffer);
+    run(part(buffer, 0, size));
+    Ok(())
+}
+
+fn main(rt: HostRuntime) -> std::io::Result<()> {
     let mut buffer = [0u8; 262144];
-    load(&mut buffer);
+    load(&rt, &mut buffer)
 }

@@ -4,12 +4,15 @@
 // written and must be the bytes that the client sent, and each answer of the server is read to its end, by one codec.
 #![tactic(auto)]
 
-ghost use Rattle.std.specs.Prelude.{◌<◌, ◌≤◌};
+ghost use Rattle.std.specs.Prelude.{◌<◌, ◌≤◌, length};
 
 use chunk::{Answer, Decoded, Encoded, Opened, PlainPacketCodec, Tolerance};
-use libc::STDOUT_FILENO;
 use refusal::number_of;
+use std::fs::File;
+use std::io::Read;
 use wire::{Put, ReadNum, part};
+
+const STDOUT_FILENO: i32 = 1;
 
 // The limit that the captured connections are read with.
 const LIMIT: usize = 61_440;
@@ -483,16 +486,28 @@ fn replay_capture(name: &[u8], file: &[u8]) {
     }
 }
 
-fn run_capture(name: &[u8]) {
-    let fd = os::open_read(name);
-    if fd < 0 {
-        os::fail(name);
-        return;
+// Reads until the buffer is full, the file ends or a read fails; answers how many bytes it put at the buffer's start.
+fn read_full(file: &File, buf: &mut [u8]) -> usize
+    ensures { result ≤ length buf.new }
+{
+    let mut reader = file;
+    let mut done = 0;
+    while done < buf.len() {
+        let n = reader.read(&mut buf[done..]).unwrap_or(0);
+        if n == 0 {
+            return done;
+        }
+        done += n;
     }
+    done
+}
+
+fn run_capture(rt: &HostRuntime, name: &str) -> std::io::Result<()> {
+    let input = File::open(rt, name)?;
     let mut buffer = io::large_buffer();
-    let size = io::read_full(fd, &mut buffer);
-    libc::close(fd);
-    replay_capture(name, part(&buffer, 0, size));
+    let size = read_full(&input, &mut buffer);
+    replay_capture(name.as_bytes(), part(&buffer, 0, size));
+    Ok(())
 }
 
 fn try_cases(file: &[u8]) {
@@ -502,20 +517,16 @@ fn try_cases(file: &[u8]) {
     say(b"  differences ", differences(&mut space, file, n));
 }
 
-fn load_cases(buffer: &mut [u8]) {
-    let fd = os::open_read(b"vectors");
-    if fd < 0 {
-        os::fail(b"vectors");
-        return;
-    }
-    let size = io::read_full(fd, buffer);
-    libc::close(fd);
+fn load_cases(rt: &HostRuntime, buffer: &mut [u8]) -> std::io::Result<()> {
+    let input = File::open(rt, "vectors")?;
+    let size = read_full(&input, buffer);
     try_cases(part(buffer, 0, size));
+    Ok(())
 }
 
-fn run_cases() {
+fn run_cases(rt: &HostRuntime) -> std::io::Result<()> {
     let mut buffer = [0u8; 262144];
-    load_cases(&mut buffer);
+    load_cases(rt, &mut buffer)
 }
 
 fn run_ends() {
@@ -527,14 +538,14 @@ fn run_ends() {
     );
 }
 
-fn main() {
-    run_cases();
+fn main(rt: HostRuntime) -> std::io::Result<()> {
+    run_cases(&rt)?;
     run_ends();
-    run_capture(b"binary-rows");
-    run_capture(b"ok-err-eof");
-    run_capture(b"ok-err-eof-tracked");
-    run_capture(b"parameters");
-    run_capture(b"seq-wrap");
-    run_capture(b"session-track");
-    run_capture(b"text-rows");
+    run_capture(&rt, "binary-rows")?;
+    run_capture(&rt, "ok-err-eof")?;
+    run_capture(&rt, "ok-err-eof-tracked")?;
+    run_capture(&rt, "parameters")?;
+    run_capture(&rt, "seq-wrap")?;
+    run_capture(&rt, "session-track")?;
+    run_capture(&rt, "text-rows")
 }

@@ -3,13 +3,16 @@
 // out). Then a million frames with nothing in them, read in one call.
 #![tactic(auto)]
 
-ghost use Rattle.std.specs.Prelude.{◌<◌, ◌≤◌};
+ghost use Rattle.std.specs.Prelude.{◌<◌, ◌≤◌, length};
 
 use codec::{Got, Opened};
 use frame::PacketCodec;
-use libc::STDOUT_FILENO;
 use refusal::number_of;
+use std::fs::File;
+use std::io::Read;
 use wire::{Put, ReadNum, part};
+
+const STDOUT_FILENO: i32 = 1;
 
 // How many operations a file may hold.
 const MOST: usize = 10_000;
@@ -353,20 +356,32 @@ fn run_file(file: &[u8]) {
     io::write_all(STDOUT_FILENO, b" differ\n");
 }
 
-fn load(buffer: &mut [u8]) {
-    let fd = os::open_read(b"vectors");
-    if fd < 0 {
-        os::fail(b"vectors");
-        return;
+// Reads until the buffer is full, the file ends or a read fails; answers how many bytes it put at the buffer's start.
+fn read_full(file: &File, buf: &mut [u8]) -> usize
+    ensures { result ≤ length buf.new }
+{
+    let mut reader = file;
+    let mut done = 0;
+    while done < buf.len() {
+        let n = reader.read(&mut buf[done..]).unwrap_or(0);
+        if n == 0 {
+            return done;
+        }
+        done += n;
     }
-    let size = io::read_full(fd, buffer);
-    libc::close(fd);
-    run_file(part(buffer, 0, size));
+    done
 }
 
-fn run_operations() {
+fn load(rt: &HostRuntime, buffer: &mut [u8]) -> std::io::Result<()> {
+    let input = File::open(rt, "vectors")?;
+    let size = read_full(&input, buffer);
+    run_file(part(buffer, 0, size));
+    Ok(())
+}
+
+fn run_operations(rt: &HostRuntime) -> std::io::Result<()> {
     let mut buffer = [0u8; 786432];
-    load(&mut buffer);
+    load(rt, &mut buffer)
 }
 
 // ---- a million frames with nothing in them
@@ -409,7 +424,8 @@ fn run_empty_frames() {
     read_frames(&bytes);
 }
 
-fn main() {
-    run_operations();
+fn main(rt: HostRuntime) -> std::io::Result<()> {
+    run_operations(&rt)?;
     run_empty_frames();
+    Ok(())
 }

@@ -6,9 +6,10 @@
 ghost use Rattle.std.specs.Prelude.{◌<◌, ◌≤◌};
 
 use chunk::{Answer, PlainPacketCodec};
-use libc::STDOUT_FILENO;
 use refusal::number_of;
 use wire::{Put, part};
+
+const STDOUT_FILENO: i32 = 1;
 
 const LINES: usize = 16_000;
 

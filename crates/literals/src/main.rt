@@ -5,8 +5,11 @@
 
 ghost use Rattle.std.specs.Prelude.{length, ◌≤◌};
 
-use libc::STDOUT_FILENO;
 use literal::Answer;
+use std::fs::File;
+use std::io::Read;
+
+const STDOUT_FILENO: i32 = 1;
 
 // What the buffer holds before each call.
 const MARK: u8 = 0xA5;
@@ -280,14 +283,26 @@ fn replayed(file: &[u8], source: &mut [u8], want: &mut [u8], dst: &mut [u8]) -> 
     t
 }
 
-fn main() {
-    let fd = os::open_read(b"literals.txt");
-    if fd < 0 {
-        os::fail(b"literals.txt");
-        return;
+// Reads until the buffer is full, the file ends or a read fails; answers how many bytes it put at the buffer's start.
+fn read_full(file: &File, buf: &mut [u8]) -> usize
+    ensures { result ≤ length buf.new }
+{
+    let mut reader = file;
+    let mut done = 0;
+    while done < buf.len() {
+        let n = reader.read(&mut buf[done..]).unwrap_or(0);
+        if n == 0 {
+            return done;
+        }
+        done += n;
     }
+    done
+}
+
+fn main(rt: HostRuntime) -> std::io::Result<()> {
+    let input = File::open(&rt, "literals.txt")?;
     let mut buffer = io::large_buffer();
-    let size = io::read_full(fd, &mut buffer);
+    let size = read_full(&input, &mut buffer);
     let file = &buffer[..size];
     let mut first = [0u8; 256];
     let source: &mut [u8] = &mut first;
@@ -300,4 +315,5 @@ fn main() {
     say(b"of them in the other mode ", t.other);
     say(b"good ", t.good);
     say(b"differences ", t.wrong);
+    Ok(())
 }

@@ -15,11 +15,14 @@ ghost use Rattle.std.specs.Prelude.{◌≡◌, ◌+◌, ◌<◌, ◌≤◌, leng
 use codec::{Got, Opened};
 use duration::{Duration, Time};
 use frame::PacketCodec;
-use libc::STDOUT_FILENO;
 use refusal::number_of;
 use row::{ReadNull, ReadRow, Side};
+use std::fs::File;
+use std::io::Read;
 use value::{ReadValue, Value};
 use wire::{Put, ReadInt, ReadNum, ReadStr, part};
+
+const STDOUT_FILENO: i32 = 1;
 
 // The box's limit, and how much it receives at a time.
 const BOX: usize = 61_440;
@@ -147,18 +150,34 @@ fn settle(room: &mut [u8], at: usize, have: usize) -> usize
     n
 }
 
+// Reads until the buffer is full, the file ends or a read fails; answers how many bytes it put at the buffer's start.
+fn read_full(file: &File, buf: &mut [u8]) -> usize
+    ensures { result ≤ length buf.new }
+{
+    let mut reader = file;
+    let mut done = 0;
+    while done < buf.len() {
+        let n = reader.read(&mut buf[done..]).unwrap_or(0);
+        if n == 0 {
+            return done;
+        }
+        done += n;
+    }
+    done
+}
+
 // Receives so many bytes at the most behind those that are there.
-fn receive(room: &mut [u8], fd: i32, have: usize, most: usize) -> usize
+fn receive(room: &mut [u8], input: &File, have: usize, most: usize) -> usize
     requires { have ≤ length room.old }
 {
     let end = have + least(most, room.len() - have);
-    io::read_full(fd, &mut room[have..end])
+    read_full(input, &mut room[have..end])
 }
 
-fn refill(room: &mut [u8], fd: i32, line: Line) -> Line {
+fn refill(room: &mut [u8], input: &File, line: Line) -> Line {
     let mut n = line;
     let have = settle(room, n.at, n.have);
-    let got = receive(room, fd, have, least(PIECE, n.left));
+    let got = receive(room, input, have, least(PIECE, n.left));
     n.answer = AGAIN;
     n.at = 0;
     n.have = std::num::wrapping_add_usize(have, got);
@@ -205,7 +224,7 @@ fn call(room: &[u8], staging: &mut [u8], dst: &mut [u8], line: Line) -> Line {
 }
 
 // The same, and if the codec needs more and more is to come, that is received.
-fn turn(room: &mut [u8], staging: &mut [u8], dst: &mut [u8], fd: i32, line: Line) -> Line {
+fn turn(room: &mut [u8], staging: &mut [u8], dst: &mut [u8], input: &File, line: Line) -> Line {
     let n = call(room, staging, dst, line);
     if n.answer != MORE {
         return n;
@@ -213,15 +232,15 @@ fn turn(room: &mut [u8], staging: &mut [u8], dst: &mut [u8], fd: i32, line: Line
     if n.left == 0 {
         return n;
     }
-    refill(room, fd, n)
+    refill(room, input, n)
 }
 
 // The next packet of the answer, or what stands in its way: no frame of this limit needs more than two pieces.
-fn next_packet(room: &mut [u8], staging: &mut [u8], dst: &mut [u8], fd: i32, line: Line) -> Line {
+fn next_packet(room: &mut [u8], staging: &mut [u8], dst: &mut [u8], input: &File, line: Line) -> Line {
     let mut n = line;
     let mut turns: usize = 0;
     while turns < 4 {
-        n = turn(room, staging, dst, fd, n);
+        n = turn(room, staging, dst, input, n);
         if n.answer != AGAIN {
             return n;
         }
@@ -529,7 +548,7 @@ fn next_within(
     staging: &mut [u8],
     dst: &mut [u8],
     limit: usize,
-    fd: i32,
+    input: &File,
     line: Line,
 ) -> Line
     requires { limit ≤ 66560 }
@@ -541,7 +560,7 @@ fn next_within(
     if dst.len() < limit {
         return line;
     }
-    next_packet(room, &mut staging[..twice], &mut dst[..limit], fd, line)
+    next_packet(room, &mut staging[..twice], &mut dst[..limit], input, line)
 }
 
 // Reads a packet and takes it.
@@ -554,7 +573,7 @@ fn step(
     room: &mut [u8; 133120],
     staging: &mut [u8; 133124],
     dst: &mut [u8; 66560],
-    fd: i32,
+    input: &File,
     night: Night,
 ) -> Night {
     let line = next_within(
@@ -562,7 +581,7 @@ fn step(
         staging,
         dst,
         least(night.line.codec.limit, WIDE),
-        fd,
+        input,
         night.line,
     );
     let counts = night.counts;
@@ -591,7 +610,7 @@ fn take_answer(
     room: &mut [u8; 133120],
     staging: &mut [u8; 133124],
     dst: &mut [u8; 66560],
-    fd: i32,
+    input: &File,
     many: usize,
     night: Night,
 ) -> Night {
@@ -602,7 +621,7 @@ fn take_answer(
             return n;
         }
         n = step(
-            offsets, places, starts, types, signs, room, staging, dst, fd, n,
+            offsets, places, starts, types, signs, room, staging, dst, input, n,
         );
         if n.line.answer != PACKET {
             return n;
@@ -720,7 +739,7 @@ fn exchange(
     staging: &mut [u8; 133124],
     dst: &mut [u8; 66560],
     out: &mut [u8; 65536],
-    fd: i32,
+    input: &File,
     client: &[u8],
     index: &[u8],
     k: usize,
@@ -735,11 +754,11 @@ fn exchange(
     let mut n = begun(word(index, 12 + 12 * k), k, night);
     let hello = if k == 0 { 1 } else { 0 };
     n = take_answer(
-        offsets, places, starts, types, signs, room, staging, dst, fd, hello, n,
+        offsets, places, starts, types, signs, room, staging, dst, input, hello, n,
     );
     n = send(out, bytes, n);
     n = take_answer(
-        offsets, places, starts, types, signs, room, staging, dst, fd, 20_000, n,
+        offsets, places, starts, types, signs, room, staging, dst, input, 20_000, n,
     );
     ended(n)
 }
@@ -797,7 +816,7 @@ fn load(
     staging: &mut [u8; 133124],
     dst: &mut [u8; 66560],
     out: &mut [u8; 65536],
-    fd: i32,
+    input: &File,
     client: &[u8],
     index: &[u8],
     many: usize,
@@ -810,7 +829,7 @@ fn load(
             return n;
         }
         n = exchange(
-            offsets, places, starts, types, signs, room, staging, dst, out, fd, client, index, k, n,
+            offsets, places, starts, types, signs, room, staging, dst, out, input, client, index, k, n,
         );
         k += 1;
     }
@@ -984,19 +1003,13 @@ fn say_night(offsets: &[i64; 9216], places: &[usize; 9216], night: Night) {
     say_head(offsets, places, least(n, 20));
 }
 
-fn read_file(name: &[u8], buffer: &mut [u8]) -> usize {
-    let fd = os::open_read(name);
-    if fd < 0 {
-        os::fail(name);
-        return 0;
-    }
-    let size = io::read_full(fd, buffer);
-    libc::close(fd);
-    size
+fn read_file(rt: &HostRuntime, name: &str, buffer: &mut [u8]) -> std::io::Result<usize> {
+    let input = File::open(rt, name)?;
+    Ok(read_full(&input, buffer))
 }
 
 // Reads the load at a limit, by the client's bytes and the index.
-fn run(fd: i32, limit: usize, client: &[u8], index: &[u8], many: usize) {
+fn run(input: &File, limit: usize, client: &[u8], index: &[u8], many: usize) {
     let mut room = [0u8; 133120];
     let mut staging = [0u8; 133124];
     let mut dst = [0u8; 66560];
@@ -1016,7 +1029,7 @@ fn run(fd: i32, limit: usize, client: &[u8], index: &[u8], many: usize) {
         &mut staging,
         &mut dst,
         &mut out,
-        fd,
+        input,
         client,
         index,
         many,
@@ -1026,32 +1039,27 @@ fn run(fd: i32, limit: usize, client: &[u8], index: &[u8], many: usize) {
     say_night(&offsets, &places, n);
 }
 
-fn run_files(fd: i32, limit: usize) {
+fn run_files(rt: &HostRuntime, input: &File, limit: usize) -> std::io::Result<()> {
     let mut client = io::buffer();
-    let sent = read_file(b"stored-eof-binary-rows.full.c2s.bin", &mut client);
+    let sent = read_file(rt, "stored-eof-binary-rows.full.c2s.bin", &mut client)?;
     let mut index = io::buffer();
-    let size = read_file(b"index", &mut index);
+    let size = read_file(rt, "index", &mut index)?;
     run(
-        fd,
+        input,
         limit,
         part(&client, 0, sent),
         part(&index, 0, size),
         word(&index, 0),
     );
+    Ok(())
 }
 
-fn read_night(limit: usize) {
-    let name = b"stored-eof-binary-rows.full.s2c.bin";
-    let fd = os::open_read(name);
-    if fd < 0 {
-        os::fail(name);
-        return;
-    }
-    run_files(fd, limit);
-    libc::close(fd);
+fn read_night(rt: &HostRuntime, limit: usize) -> std::io::Result<()> {
+    let input = File::open(rt, "stored-eof-binary-rows.full.s2c.bin")?;
+    run_files(rt, &input, limit)
 }
 
-fn main() {
-    read_night(BOX);
-    read_night(WIDE);
+fn main(rt: HostRuntime) -> std::io::Result<()> {
+    read_night(&rt, BOX)?;
+    read_night(&rt, WIDE)
 }

@@ -6,8 +6,12 @@
 // host/data/replies.py makes the files and says how an entry is laid out.
 #![tactic(auto)]
 
+ghost use Rattle.std.specs.Prelude.{◌≤◌, length};
+
 use answer::{Answered, ErrPacket, Handed, NextRecord, OkPacket, Packet, ReadAnswer};
 use session::{ReadRecord, ReadVariable, SessionStateChange, Text};
+use std::fs::File;
+use std::io::Read;
 use wire::Put;
 
 fn byte_at(s: &[u8], at: usize) -> u8 {
@@ -472,21 +476,35 @@ fn replay(s: &[u8]) {
     line(b"  differences  ", differences(s));
 }
 
-fn replay_file(path: &[u8]) {
+// Reads until the buffer is full, the file ends or a read fails; answers how many bytes it put at the buffer's start.
+fn read_full(file: &File, buf: &mut [u8]) -> usize
+    ensures { result ≤ length buf.new }
+{
+    let mut reader = file;
+    let mut done = 0;
+    while done < buf.len() {
+        let n = reader.read(&mut buf[done..]).unwrap_or(0);
+        if n == 0 {
+            return done;
+        }
+        done += n;
+    }
+    done
+}
+
+fn replay_file(rt: &HostRuntime, path: &str) {
     let mut buf = io::large_buffer();
-    let fd = os::open_read(path);
-    if fd < 0 {
+    let Ok(input) = File::open(rt, path) else {
         io::write_all(1, b"  no such file\n");
         return;
-    }
-    let n = io::read_full(fd, &mut buf);
-    libc::close(fd);
+    };
+    let n = read_full(&input, &mut buf);
     replay(&buf[..n]);
 }
 
-fn main() {
+fn main(rt: HostRuntime) {
     io::write_all(1, b"packets of the captures\n");
-    replay_file(b"replies.bin");
+    replay_file(&rt, "replies.bin");
     io::write_all(1, b"packets cut at every length\n");
-    replay_file(b"limits.bin");
+    replay_file(&rt, "limits.bin");
 }

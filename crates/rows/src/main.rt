@@ -2,13 +2,16 @@
 // (host/data/rows.py, which also says how the file is laid out), and each row cut at every length.
 #![tactic(auto)]
 
-ghost use Rattle.std.specs.Prelude.{◌<◌, ◌≤◌};
+ghost use Rattle.std.specs.Prelude.{◌<◌, ◌≤◌, length};
 
 use duration::Time;
-use libc::STDOUT_FILENO;
 use row::{ReadNull, ReadRow, Side};
+use std::fs::File;
+use std::io::Read;
 use value::{Date, ReadValue, Value};
 use wire::ReadNum;
+
+const STDOUT_FILENO: i32 = 1;
 
 // What the list holds before each call: no start comes near it.
 const MARK: usize = 0x7654_3210;
@@ -420,13 +423,26 @@ fn run(file: &[u8]) {
     say_counts(&counts);
 }
 
-fn main() {
-    let fd = os::open_read(b"rows");
-    if fd < 0 {
-        os::fail(b"rows");
-        return;
+// Reads until the buffer is full, the file ends or a read fails; answers how many bytes it put at the buffer's start.
+fn read_full(file: &File, buf: &mut [u8]) -> usize
+    ensures { result ≤ length buf.new }
+{
+    let mut reader = file;
+    let mut done = 0;
+    while done < buf.len() {
+        let n = reader.read(&mut buf[done..]).unwrap_or(0);
+        if n == 0 {
+            return done;
+        }
+        done += n;
     }
+    done
+}
+
+fn main(rt: HostRuntime) -> std::io::Result<()> {
+    let input = File::open(&rt, "rows")?;
     let mut buffer = io::large_buffer();
-    let size = io::read_full(fd, &mut buffer);
+    let size = read_full(&input, &mut buffer);
     run(wire::part(&buffer, 0, size));
+    Ok(())
 }

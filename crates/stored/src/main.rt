@@ -6,13 +6,16 @@
 // A capture with packed frames comes last: the first of them must be refused with 5, after the packets before it.
 #![tactic(auto)]
 
-ghost use Rattle.std.specs.Prelude.{◌<◌, ◌≤◌};
+ghost use Rattle.std.specs.Prelude.{◌<◌, ◌≤◌, length};
 
 use codec::{Got, Opened};
 use frame::PacketCodec;
-use libc::STDOUT_FILENO;
 use refusal::number_of;
+use std::fs::File;
+use std::io::Read;
 use wire::{Put, ReadNum, part};
+
+const STDOUT_FILENO: i32 = 1;
 
 // The box's limit; staging has twice as many bytes and four more.
 const LIMIT: usize = 61_440;
@@ -399,28 +402,40 @@ fn run_pieces(name: &[u8], file: &[u8], piece: usize) {
     say_run(name, r);
 }
 
-fn run_capture(name: &[u8]) {
-    let fd = os::open_read(name);
-    if fd < 0 {
-        os::fail(name);
-        return;
+// Reads until the buffer is full, the file ends or a read fails; answers how many bytes it put at the buffer's start.
+fn read_full(file: &File, buf: &mut [u8]) -> usize
+    ensures { result ≤ length buf.new }
+{
+    let mut reader = file;
+    let mut done = 0;
+    while done < buf.len() {
+        let n = reader.read(&mut buf[done..]).unwrap_or(0);
+        if n == 0 {
+            return done;
+        }
+        done += n;
     }
-    let mut buffer = io::large_buffer();
-    let size = io::read_full(fd, &mut buffer);
-    libc::close(fd);
-    let file = &buffer[..size];
-    run_pieces(name, file, 65_536);
-    run_pieces(name, file, 0);
+    done
 }
 
-fn main() {
-    run_capture(b"deprecate-eof-ok-err-eof");
-    run_capture(b"deprecate-eof-rows");
-    run_capture(b"deprecate-eof-seq-wrap");
-    run_capture(b"deprecate-eof-session-track");
-    run_capture(b"eof-ok-err-eof");
-    run_capture(b"eof-rows");
-    run_capture(b"eof-seq-wrap");
-    run_capture(b"eof-session-track");
-    run_capture(b"packed-rows");
+fn run_capture(rt: &HostRuntime, name: &str) -> std::io::Result<()> {
+    let input = File::open(rt, name)?;
+    let mut buffer = io::large_buffer();
+    let size = read_full(&input, &mut buffer);
+    let file = &buffer[..size];
+    run_pieces(name.as_bytes(), file, 65_536);
+    run_pieces(name.as_bytes(), file, 0);
+    Ok(())
+}
+
+fn main(rt: HostRuntime) -> std::io::Result<()> {
+    run_capture(&rt, "deprecate-eof-ok-err-eof")?;
+    run_capture(&rt, "deprecate-eof-rows")?;
+    run_capture(&rt, "deprecate-eof-seq-wrap")?;
+    run_capture(&rt, "deprecate-eof-session-track")?;
+    run_capture(&rt, "eof-ok-err-eof")?;
+    run_capture(&rt, "eof-rows")?;
+    run_capture(&rt, "eof-seq-wrap")?;
+    run_capture(&rt, "eof-session-track")?;
+    run_capture(&rt, "packed-rows")
 }

@@ -8,10 +8,11 @@
 ghost use Rattle.std.specs.Prelude.{◌+◌, ◌<◌, ◌≤◌, length};
 
 use chunk::{MAX_PAYLOAD_LEN, PlainPacketCodec};
-use libc::STDOUT_FILENO;
 use refusal::number_of;
 use stream::{Answer, Opened, Stream};
 use wire::{Put, ReadNum, part};
+
+const STDOUT_FILENO: i32 = 1;
 
 const SEED: usize = 1_920_717;
 

@@ -2,12 +2,15 @@
 // gives (host/data/values.py, which also says how the file is laid out). Where it must not be written no byte may change.
 #![tactic(auto)]
 
-ghost use Rattle.std.specs.Prelude.{◌≤◌, ◌<◌};
+ghost use Rattle.std.specs.Prelude.{◌≤◌, ◌<◌, length};
 
 use duration::Time;
-use libc::STDOUT_FILENO;
+use std::fs::File;
+use std::io::Read;
 use value::{Date, End, GotValue, ReadValue, Value};
 use wire::{Needed, Put, ReadNum};
+
+const STDOUT_FILENO: i32 = 1;
 
 // What the buffer holds before each call.
 const MARK: u8 = 0xA5;
@@ -356,14 +359,26 @@ fn count_marked(file: &[u8], n: usize, at: usize) -> usize
     count
 }
 
-fn main() {
-    let fd = os::open_read(b"vectors");
-    if fd < 0 {
-        os::fail(b"vectors");
-        return;
+// Reads until the buffer is full, the file ends or a read fails; answers how many bytes it put at the buffer's start.
+fn read_full(file: &File, buf: &mut [u8]) -> usize
+    ensures { result ≤ length buf.new }
+{
+    let mut reader = file;
+    let mut done = 0;
+    while done < buf.len() {
+        let n = reader.read(&mut buf[done..]).unwrap_or(0);
+        if n == 0 {
+            return done;
+        }
+        done += n;
     }
+    done
+}
+
+fn main(rt: HostRuntime) -> std::io::Result<()> {
+    let input = File::open(&rt, "vectors")?;
     let mut buffer = io::large_buffer();
-    let size = io::read_full(fd, &mut buffer);
+    let size = read_full(&input, &mut buffer);
     let file = &buffer[..size];
     let mut space = [0u8; 512];
     let dst: &mut [u8] = &mut space;
@@ -373,4 +388,5 @@ fn main() {
     say(b"of them in text ", count_marked(file, n, 0));
     say(b"refused ", count_marked(file, n, 3));
     say(b"differences ", wrong);
+    Ok(())
 }
