@@ -1,10 +1,8 @@
 -- What a reader makes of E1 of document 01, whole and with a wrong number, computed.
-use Rattle.std.proofs.Common.{◌≡◌, ℕ, List, [], ◌∷◌, refl}
-use mathlib.Core.List.{flatten}
-use Rattle.wire.specs.Le.{le_of, le_bytes}
-use Rattle.chunk.specs.Chunks.{next, chunk, cut, pieces, numbered, chunks_of, chunks, after}
-use Rattle.chunk.specs.Read.{idle, closed, holding, packet, refused, took, chunk_at, headed, turn_from, turn_of, turns, opened, read}
-use Rattle.chunk.specs.declared.PlainPacketCodec.{PlainPacketCodec}
+use Rattle.std.proofs.Common.{◌≡◌, [], ◌∷◌, refl}
+use Rattle.wire.specs.Le.{le_of}
+use Rattle.chunk.specs.Chunks.{next}
+use Rattle.chunk.specs.Read.{idle, packet, refused, took, chunk_at, headed, turn_from, turn_of, turns, opened, read}
 use Rattle.chunk.specs.declared.Tolerance.TheVariants.{Strict}
 
 -- E1 read back, a byte behind it and a longer buffer

@@ -1,10 +1,10 @@
 -- The reader's steps, over plain lists and numbers.
-use Rattle.std.proofs.Common.{◌≡◌, ℕ, ◌+◌, ◌-◌, ◌<◌, ◌≤◌, true, false, List, length, take, drop, sym, refl, ap, ◌∙◌, add_assoc, zero-add, arith, length-drop, take_all, drop-drop}
+use Rattle.std.proofs.Common.{◌≡◌, ℕ, ◌+◌, ◌-◌, ◌≤◌, true, false, List, length, take, drop, sym, refl, ap, ◌∙◌, add_assoc, zero-add, arith, length-drop, take_all, drop-drop}
 use Rattle.wire.specs.Room.{patch}
 use Rattle.chunk.specs.Chunks.{largest}
 use Rattle.chunk.specs.declared.PlainPacketCodec.{PlainPacketCodec}
 use Rattle.chunk.specs.declared.Tolerance.{Tolerance}
-use Rattle.chunk.specs.Read.{Turned, Done, later, turn_of, opened}
+use Rattle.chunk.specs.Read.{Turned, later, turn_of, opened}
 use Rattle.chunk.specs.ReadLaws.{Uses, turn_uses, opened-stop, opened_more}
 
 -- the payload that is lent is the chunk's

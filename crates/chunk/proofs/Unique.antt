@@ -11,7 +11,6 @@ use Rattle.chunk.specs.ReadLaws.{answer_same}
 use Rattle.chunk.specs.Write.{Sent, sent_of, write}
 use Rattle.chunk.specs.declared.PlainPacketCodec.{PlainPacketCodec}
 use Rattle.chunk.specs.declared.Tolerance.{Tolerance}
-use Rattle.chunk.specs.declared.Tolerance.TheVariants.{Strict}
 use Rattle.chunk.specs.declared.Opened.{Opened}
 use Rattle.chunk.specs.declared.Opened.TheVariants as O
 use Rattle.chunk.specs.declared.Answer.{Answer}

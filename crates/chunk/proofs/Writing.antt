@@ -1,12 +1,12 @@
 -- The writer's steps, over plain lists and numbers.
-use Rattle.std.proofs.Common.{◌≡◌, ℕ, ◌+◌, ◌-◌, ◌<◌, ◌≤◌, List, [], ◌∷◌, ◌++◌, length, take, drop, set, sym, refl, ap, ◌∙◌, arith, length-append, length-drop, length-take, take_all, drop-drop}
+use Rattle.std.proofs.Common.{◌≡◌, ℕ, ◌+◌, ◌-◌, ◌<◌, ◌≤◌, List, ◌∷◌, length, take, drop, set, sym, refl, ap, ◌∙◌, arith, length-drop, length-take, take_all, drop-drop}
 use native.Mathlib.Nat.{sub-zero}
 use Rattle.wire.specs.Le.{le_bytes}
 use Rattle.wire.specs.LeLaws.{le_length}
 use Rattle.wire.specs.Room.{patch}
 use Rattle.wire.specs.RoomLaws.{patch-append, patch_cons, length-patch}
 use Rattle.chunk.specs.Chunks.{largest, next, chunk, chunks, needed, after}
-use Rattle.chunk.specs.ChunksLaws.{chunks_last, chunks_more, needed_last, needed_more, after_last, after_more, chunk_is, length-chunk, length-chunks}
+use Rattle.chunk.specs.ChunksLaws.{chunks_last, chunks_more, needed_more, after_last, after_more, chunk_is, length-chunk, length-chunks}
 
 -- a chunk: its length, its number, its payload
 pub chunk_put : (d : List ℕ) (at k : ℕ) (p d₁ d₂ : List ℕ) → at + (length p + 4) ≤ length d

@@ -1,8 +1,6 @@
 -- What a call leaves of the packet buffer: some bytes are put behind those that the packet had, and all else is as it was.
-use Rattle.std.specs.Prelude.{◌≡◌, ℕ, zero, suc, ◌+◌, ◌<◌, ◌≤◌, Bool, true, false, List, [], ◌∷◌, ◌++◌, length, take, drop, ◌==◌, refl}
-use Rattle.std.proofs.Common.{sym, ap, ◌∙◌, append_assoc, append-nil, add-zero, add_assoc, arith, length-append, length-drop, length-take, take-append-drop, take-take, take_at, drop_at}
-use Rattle.std.proofs.lemmas.List.{take-append-le, drop-append-le}
-use Rattle.std.proofs.Math.Seq.{drop-append-add}
+use Rattle.std.specs.Prelude.{◌≡◌, ℕ, ◌+◌, ◌≤◌, Bool, true, false, List, [], ◌++◌, length, take, drop, ◌==◌, refl}
+use Rattle.std.proofs.Common.{sym, ap, ◌∙◌, append_assoc, append-nil, add-zero, arith, length-append, length-drop, length-take, take-append-drop, take_at, drop_at}
 use Rattle.wire.specs.Room.{patch}
 use Rattle.wire.specs.RoomLaws.{patch-append, length-patch}
 use Rattle.chunk.specs.declared.PlainPacketCodec.{PlainPacketCodec}

@@ -12,7 +12,7 @@ use Rattle.chunk.specs.declared.Tolerance.{Tolerance}
 use Rattle.chunk.specs.declared.Answer.{Answer}
 use Rattle.chunk.specs.declared.Answer.TheVariants as A
 use Rattle.chunk.specs.Chunks.{next}
-use Rattle.chunk.specs.Read.{idle, closed, holding, past, Held, none, held, held_of, Answered, need_more, packet, refused, answer_said, Done}
+use Rattle.chunk.specs.Read.{idle, closed, holding, past, Held, none, held, held_of, need_more, packet, refused, answer_said, Done}
 use Rattle.chunk.specs.Read.{Turned, stop, took, accepted, chunk_at, headed, turn_from, turn_of, later, turns, opened, read}
 
 -- ---- one chunk

@@ -2,7 +2,7 @@
 -- what came then, answers what one call on all the bytes would have. A call that does not ask for more answers the same with
 -- more behind.
 use Rattle.std.specs.Prelude.{◌≡◌, ℕ, zero, suc, ◌+◌, ◌<◌, ◌≤◌, Bool, true, false, List, ◌++◌, length, drop, ◌==◌, ◌≢◌, nat_lt, slice_index, refl}
-use Rattle.std.proofs.Common.{sym, ap, ◌∙◌, add_assoc, zero-add, not-suc-le-zero, arith, length-append, length-drop, drop-drop, lt-ltb, le-ltb}
+use Rattle.std.proofs.Common.{sym, ap, ◌∙◌, add_assoc, zero-add, not-suc-le-zero, arith, length-append, length-drop, drop-drop, le-ltb}
 use Rattle.std.proofs.Math.Decide.{dec_le}
 use Rattle.std.proofs.Math.ListN.{get_or-append}
 use Rattle.std.proofs.lemmas.List.{take-append-le, drop-append-le}

@@ -1,11 +1,11 @@
 -- What was written is read: the chunks of a packet, read with room and within the limit, give the packet. Over any piece size
 -- of 1 to M, any tolerance, and whatever stands behind the chunks.
-use Rattle.std.specs.Prelude.{◌≡◌, ℕ, zero, suc, ◌+◌, ◌-◌, ◌<◌, ◌≤◌, true, false, List, [], ◌∷◌, ◌++◌, length, take, drop, slice_index, refl}
+use Rattle.std.specs.Prelude.{◌≡◌, ℕ, zero, suc, ◌+◌, ◌-◌, ◌<◌, ◌≤◌, true, false, List, ◌++◌, length, take, drop, slice_index, refl}
 use Rattle.std.proofs.Common.{sym, ap, ◌∙◌, append_assoc, zero-add, arith, length-append, length-drop, length-take, take-append-drop, take_at, drop_at, eq-eqb}
 use Rattle.std.proofs.Math.Decide.{dec_le}
 use Rattle.std.proofs.Math.Seq.{take-append_seam}
 use Rattle.refusal.specs.Said.{gives}
-use Rattle.wire.specs.Le.{le_of, le_at, le_bytes}
+use Rattle.wire.specs.Le.{le_at, le_bytes}
 use Rattle.wire.specs.LenEncLaws.{le_back}
 use Rattle.wire.specs.Room.{patch}
 use Rattle.wire.specs.RoomLaws.{patch-append, length-patch}
@@ -14,10 +14,10 @@ use Rattle.chunk.specs.ChunksLaws.{chunks_last, chunks_more, needed_last, needed
 use Rattle.chunk.specs.declared.PlainPacketCodec.{PlainPacketCodec}
 use Rattle.chunk.specs.declared.Tolerance.{Tolerance}
 use Rattle.chunk.specs.declared.Tolerance.TheVariants.{Strict, Also}
-use Rattle.chunk.specs.Read.{idle, past, renumbered, none, held_of, packet, Done, accepted, took, turn_of, opened, later, read}
+use Rattle.chunk.specs.Read.{idle, past, renumbered, none, held_of, packet, Done, accepted, took, turn_of, opened, read}
 use Rattle.chunk.specs.ReadLaws.{took_more, took_last, took_more_lem, took_last_lem, turn_takes, opened-stop, opened_more, read_open}
 use Rattle.chunk.specs.Write.{write}
-use Rattle.chunk.specs.WriteLaws.{sent, write-whole}
+use Rattle.chunk.specs.WriteLaws.{write-whole}
 
 -- ---- a chunk that is there
 

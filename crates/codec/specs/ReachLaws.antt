@@ -16,7 +16,7 @@ use Rattle.frame.specs.Write as G
 use Rattle.frame.specs.Write.{piece_of, total, write_framed}
 use Rattle.frame.specs.WriteLaws.{sent}
 use Rattle.frame.specs.declared.PacketCodec.{PacketCodec}
-use Rattle.codec.specs.Connection.{unframed, Opening, opens, opening_of, opening, frames_on, synced, read_plain, read_packet, write_plain, write_packet}
+use Rattle.codec.specs.Connection.{unframed, opens, opening_of, opening, frames_on, synced, read_plain, read_packet, write_plain, write_packet}
 use Rattle.codec.specs.ConnectionLaws.{framed-reader, off_reader}
 
 -- the codecs that a host can have, where l is the limit of its opening: what each entry makes of such a one is another

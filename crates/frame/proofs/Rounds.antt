@@ -1,5 +1,5 @@
 -- The reader's steps, over plain lists and numbers.
-use Rattle.std.proofs.Common.{◌≡◌, ℕ, ◌+◌, ◌-◌, ◌<◌, ◌≤◌, Bool, true, false, List, [], ◌++◌, length, take, drop, sym, refl, ap, ◌∙◌, add_assoc, zero-add, arith, length-append, length-drop, length-take, length-take-le, take_all, drop-drop, take_at}
+use Rattle.std.proofs.Common.{◌≡◌, ℕ, ◌+◌, ◌-◌, ◌≤◌, Bool, true, false, List, [], ◌++◌, length, take, drop, sym, refl, ap, ◌∙◌, add_assoc, zero-add, arith, length-drop, length-take, length-take-le, take_all, drop-drop, take_at}
 use Rattle.wire.specs.Room.{patch}
 use Rattle.chunk.specs.Chunks.{largest}
 use Rattle.chunk.specs.Read as P
@@ -7,7 +7,6 @@ use Rattle.chunk.specs.ReadLaws.{read_uses}
 use Rattle.chunk.specs.declared.Decoded.{Decoded}
 use Rattle.chunk.specs.declared.PlainPacketCodec.{PlainPacketCodec}
 use Rattle.chunk.specs.declared.Tolerance.TheVariants.{Also}
-use Rattle.chunk.specs.declared.Answer.{Answer}
 use Rattle.chunk.specs.declared.Answer.TheVariants as A
 use Rattle.frame.specs.Codec.{plain_of, with_plain, past_frame, unread_of, last_number}
 use Rattle.frame.specs.Read.{Done, Lap, done_of, took, frame_at, drained, asks, lap_at, later, running}

@@ -1,5 +1,5 @@
 -- The writer's steps, over plain lists and numbers.
-use Rattle.std.proofs.Common.{◌≡◌, ℕ, ◌+◌, ◌-◌, ◌*◌, ◌<◌, ◌≤◌, List, [], ◌∷◌, ◌++◌, length, take, drop, set, sym, refl, ap, ◌∙◌, append_assoc, zero-add, arith, length-append, length-drop, length-take, take-take, take_at}
+use Rattle.std.proofs.Common.{◌≡◌, ℕ, ◌+◌, ◌-◌, ◌*◌, ◌<◌, ◌≤◌, List, [], ◌∷◌, ◌++◌, length, take, drop, set, sym, refl, ap, ◌∙◌, append_assoc, zero-add, arith, length-drop, length-take, take-take, take_at}
 use Rattle.wire.specs.Le.{le_bytes}
 use Rattle.wire.specs.LeLaws.{le_length}
 use Rattle.wire.specs.Room.{patch}
@@ -7,7 +7,7 @@ use Rattle.wire.specs.RoomLaws.{patch-append, patch_cons, length-patch}
 use Rattle.chunk.specs.Chunks.{largest, next, chunks, needed}
 use Rattle.chunk.specs.ChunksLaws.{length-chunks}
 use Rattle.frame.specs.Frames.{frame, ceil, frames, frames_need, frames_after}
-use Rattle.frame.specs.FramesLaws.{ceil_last, ceil_more, ceil-some, frames_last, frames_more, need_last, need_more_lem, frames-after_last}
+use Rattle.frame.specs.FramesLaws.{ceil_last, ceil_more, ceil-some, frames_last, frames_more, frames-after_last}
 use Rattle.frame.specs.FramesLaws.{frames-after_more, frame_head, length_head, frame_is, length-frame, length-frames}
 use Rattle.frame.specs.Write.{piece_of, total}
 use Rattle.frame.specs.WriteLaws.{piece_some}

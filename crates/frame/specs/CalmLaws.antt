@@ -1,8 +1,8 @@
 -- "Staging of 2·limit + 4 bytes never gives 6": nor does one byte less, where the packet buffer is as long as the limit. Where the plain
 -- reader asks for more, fewer than limit + 4 bytes are unread, and a frame adds no more than limit.
-use Rattle.std.specs.Prelude.{◌≡◌, ℕ, zero, suc, ◌+◌, ◌-◌, ◌<◌, ◌≤◌, Bool, true, false, cond, List, [], ◌++◌, length, take, drop, ◌==◌, ◌≢◌, nat_lt, slice_index_or}
+use Rattle.std.specs.Prelude.{◌≡◌, ℕ, zero, suc, ◌+◌, ◌<◌, ◌≤◌, Bool, true, false, List, length, take, drop, ◌==◌, ◌≢◌, nat_lt, slice_index_or}
 use Rattle.std.proofs.Math.Path.{refl}
-use Rattle.std.proofs.Common.{sym, ap, ◌∙◌, length-append, length-take-le}
+use Rattle.std.proofs.Common.{◌∙◌, length-append, length-take-le}
 use Rattle.std.proofs.Math.Nat.{not-suc-le-zero}
 use native.Mathlib.Omega.{arith}
 use Rattle.std.proofs.Math.ListN.{length-drop, length-take}

@@ -1,6 +1,6 @@
 -- The codec of a connection: the plain state, and what frames add to it. Any record of this shape is one; what is not named in an
 -- update stays.
-use Rattle.std.specs.Prelude.{ℕ, ◌+◌, ◌%◌, Bool, true, false, cond, eqb, ltb, List, take}
+use Rattle.std.specs.Prelude.{ℕ, ◌+◌, ◌%◌, Bool, true, false, List, take}
 use Rattle.chunk.specs.Chunks.{next}
 use Rattle.chunk.specs.Read as P
 use Rattle.chunk.specs.declared.PlainPacketCodec.{PlainPacketCodec}

@@ -1,11 +1,10 @@
 -- Laws of a stream's frames: by whether the stream goes on behind the first one. No proof past these looks at the count.
-use Rattle.std.specs.Prelude.{◌≡◌, ℕ, zero, suc, ◌+◌, ◌-◌, ◌*◌, ◌/◌, ◌%◌, ◌<◌, ◌≤◌, List, [], ◌∷◌, ◌++◌, length, take, drop, refl}
-use Rattle.std.proofs.Common.{sym, ap, ◌∙◌, add-one, arith, length-append, length-take, length-drop, take_all}
-use mathlib.Core.List.{flatten, append_assoc, append-nil}
+use Rattle.std.specs.Prelude.{◌≡◌, ℕ, zero, suc, ◌+◌, ◌-◌, ◌<◌, ◌≤◌, List, [], ◌∷◌, ◌++◌, length, take, drop, refl}
+use Rattle.std.proofs.Common.{ap, ◌∙◌, add-one, arith, length-append, length-take, length-drop, take_all}
+use mathlib.Core.List.{flatten, append-nil}
 use Rattle.std.proofs.Math.Nat.{div-eq_of_lt, div-eq-sub-div}
 use Rattle.std.proofs.Math.Decide.{dec_le}
 use Rattle.wire.specs.Le.{le_bytes}
-use Rattle.wire.specs.LeLaws.{le_length}
 use Rattle.chunk.specs.Chunks.{next}
 use Rattle.frame.specs.Frames.{frame, ceil, split, numbered_frames, frames_of, frames, frames_need, frames_after}
 

@@ -1,11 +1,11 @@
 -- "Packed payloads are refused": a frame that says a plain length is refused with 5 and closes, whatever its number, once both lengths
 -- are within the limit. What is unread, the packet buffer and the frame number stay.
-use Rattle.std.specs.Prelude.{◌≡◌, ℕ, ◌<◌, ◌≤◌, true, false, List, [], length, take, slice_index, refl}
-use Rattle.std.proofs.Common.{sym, ap, ◌∙◌, arith}
+use Rattle.std.specs.Prelude.{◌≡◌, ℕ, ◌<◌, ◌≤◌, false, List, [], length, take, slice_index}
+use Rattle.std.proofs.Common.{ap, ◌∙◌, arith}
 use Rattle.wire.specs.Le.{le_at}
 use Rattle.chunk.specs.Read.{refused}
 use Rattle.frame.specs.Codec.{closed, none, frame_held_of, unread_of}
-use Rattle.frame.specs.Read.{Done, Lap, stop, lap_at, running, read_framed}
+use Rattle.frame.specs.Read.{stop, lap_at, running, read_framed}
 use Rattle.frame.specs.ReadLaws.{frame-headed, headed_packed, lap_empty, running-stop, framed_open}
 use Rattle.frame.specs.declared.PacketCodec.{PacketCodec}
 

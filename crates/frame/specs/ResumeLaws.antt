@@ -1,14 +1,14 @@
 -- Reading in parts: a call that asks for more, and then a call on what it left and what came after, answers what one call on all the
 -- bytes would have. Between them the host lends any staging that has the unread bytes at its front. A call that does not ask for more
 -- answers the same with more behind.
-use Rattle.std.specs.Prelude.{◌≡◌, ℕ, zero, suc, ◌+◌, ◌-◌, ◌<◌, ◌≤◌, Bool, true, false, List, [], ◌++◌, length, take, drop, ◌==◌, ◌≢◌, nat_lt, slice_index, refl}
+use Rattle.std.specs.Prelude.{◌≡◌, ℕ, zero, suc, ◌+◌, ◌<◌, ◌≤◌, Bool, true, false, List, [], ◌++◌, length, take, drop, ◌==◌, ◌≢◌, nat_lt, slice_index, refl}
 use Rattle.std.proofs.Common.{sym, ◌∙◌, append-nil, add_assoc, zero-add, not-suc-le-zero, arith, drop-drop}
 use Rattle.std.proofs.Math.Path.{ap}
 use Rattle.std.proofs.Math.Nat.{sub-zero}
 use Rattle.std.proofs.Math.Decide.{dec_le}
 use Rattle.std.proofs.Math.ListN.{length-append, length-drop, get_or-append}
 use Rattle.std.proofs.Math.Seq.{take-append-le, drop-append-le}
-use borrow.Author.Tests.{lt-ltb, le-ltb, ltb-false}
+use borrow.Author.Tests.{le-ltb}
 use Rattle.wire.specs.Le.{le_of, le_at}
 use Rattle.chunk.specs.Read as P
 use Rattle.chunk.specs.Read.{Answered, need_more, packet, refused, read}

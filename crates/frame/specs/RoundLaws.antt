@@ -1,7 +1,7 @@
 -- What was written with frames on is read with frames on: the packet comes back. Over any piece sizes, and whatever stands behind the
 -- frames. Before the last frame the plain reader asks for more: else it would have answered so on all the bytes, with fewer used.
-use Rattle.std.specs.Prelude.{◌≡◌, ℕ, zero, suc, ◌+◌, ◌-◌, ◌*◌, ◌/◌, ◌%◌, ◌<◌, ◌≤◌, min, Bool, true, false, List, [], ◌∷◌, ◌++◌, length, take, drop, ◌≢◌, slice_index, refl}
-use Rattle.std.proofs.Common.{sym, ap, ◌∙◌, not-suc-le-zero, arith, length-append, length-drop, length-take, take-append-drop, drop_of_length-le, take_all, take_at, drop_at}
+use Rattle.std.specs.Prelude.{◌≡◌, ℕ, zero, suc, ◌+◌, ◌-◌, ◌<◌, ◌≤◌, min, Bool, true, false, List, [], ◌∷◌, ◌++◌, length, take, drop, ◌≢◌, slice_index, refl}
+use Rattle.std.proofs.Common.{sym, ap, ◌∙◌, not-suc-le-zero, arith, length-append, length-drop, length-take, take-append-drop, drop_of_length-le, take_all, drop_at}
 use mathlib.Core.List.{flatten, append_assoc, append-nil}
 use Rattle.std.proofs.Math.Decide.{dec_le}
 use Rattle.std.proofs.Math.Seq.{take-append_seam}
@@ -18,7 +18,7 @@ use Rattle.chunk.specs.ResumeLaws.{opened_resume, opened_stays, opened_ready}
 use Rattle.chunk.specs.declared.PlainPacketCodec.{PlainPacketCodec}
 use Rattle.chunk.specs.declared.Tolerance.TheVariants.{Strict, Also}
 use Rattle.frame.specs.Codec.{plain_of, with_plain, holding_frame, past_frame, unread_of, last_number}
-use Rattle.frame.specs.Frames.{frame, ceil, split, numbered_frames, frames_of, frames, frames_need, frames_after}
+use Rattle.frame.specs.Frames.{frame, split, numbered_frames, frames_of, frames, frames_need, frames_after}
 use Rattle.frame.specs.FramesLaws.{ceil_none, frames_last, frames_more, length-frame, need_last, need_more_lem, frames-after_last, frames-after_more}
 use Rattle.frame.specs.Read.{Done, Lap, took, frame_at, drained, asks, lap_at, later, running, read_framed}
 use Rattle.frame.specs.ReadLaws.{frame-headed, headed_held, body-took, lap_frame, lap_stop, running-stop, running_more, framed_open}

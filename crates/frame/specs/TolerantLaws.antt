@@ -1,8 +1,8 @@
 -- A plain reader that accepts one number more reads what the strict one reads, where that does not refuse with 3. And no plain reader
 -- changes the limit.
-use Rattle.std.specs.Prelude.{◌≡◌, ℕ, zero, suc, ◌+◌, ◌<◌, ◌≤◌, Bool, true, false, cond, List, [], ◌++◌, length, drop, ◌==◌, ◌≢◌, nat_lt, slice_index, slice_index_or}
+use Rattle.std.specs.Prelude.{◌≡◌, ℕ, zero, suc, ◌+◌, ◌<◌, true, false, List, length, drop, ◌==◌, ◌≢◌, nat_lt, slice_index, slice_index_or}
 use Rattle.std.proofs.Math.Path.{refl, sym}
-use Rattle.std.proofs.Common.{ap, ◌∙◌, lt-ltb, le-ltb}
+use Rattle.std.proofs.Common.{◌∙◌, le-ltb}
 use native.Mathlib.Omega.{arith}
 use Rattle.std.proofs.Math.Decide.{dec_le}
 use Rattle.wire.specs.Le.{le_at}

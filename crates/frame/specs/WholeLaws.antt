@@ -1,7 +1,7 @@
 -- The common call with frames on: nothing begun, nothing unread, and at the front a frame that holds one whole packet of one chunk.
-use Rattle.std.specs.Prelude.{◌≡◌, ℕ, ◌+◌, ◌-◌, ◌≤◌, true, false, List, [], ◌++◌, length, take, drop, slice_index, slice_index_or}
+use Rattle.std.specs.Prelude.{◌≡◌, ℕ, ◌+◌, ◌-◌, ◌≤◌, true, false, List, [], length, take, drop, slice_index, slice_index_or}
 use Rattle.std.proofs.Math.Path.{refl, ap}
-use Rattle.std.proofs.Common.{sym, ◌∙◌, add-zero, arith, length-drop, length-take-le}
+use Rattle.std.proofs.Common.{◌∙◌, add-zero, arith, length-drop, length-take-le}
 use Rattle.std.proofs.Math.ListN.{drop_of_length-le}
 use Rattle.wire.specs.Le.{le_at}
 use Rattle.wire.specs.Room.{patch}
@@ -10,7 +10,7 @@ use Rattle.chunk.specs.Read.{idle, packet, accepted}
 use Rattle.chunk.specs.ReadLaws.{read_whole}
 use Rattle.chunk.specs.declared.Tolerance.TheVariants.{Also}
 use Rattle.frame.specs.Codec.{plain_of, with_plain, holding_frame, past_frame, none, frame_held_of, unread_of, last_number}
-use Rattle.frame.specs.Read.{Done, Lap, took, frame_at, drained, lap_at, later, running, read_framed}
+use Rattle.frame.specs.Read.{Done, Lap, took, drained, lap_at, later, running, read_framed}
 use Rattle.frame.specs.ReadLaws.{frame-headed, headed_held, body-took, lap_empty, lap_stop, framed_open, running_more, running-stop}
 use Rattle.frame.specs.declared.PacketCodec.{PacketCodec}
 

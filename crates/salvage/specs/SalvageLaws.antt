@@ -13,7 +13,7 @@ use Rattle.chunk.specs.ReadLaws.{by_test}
 use Rattle.salvage.specs.declared.Run.{Run}
 use Rattle.salvage.specs.declared.Round.{Round}
 use Rattle.salvage.specs.Salvage.{Front, large, cut, front_of, taken, chunk_at, stops, behind, runs, run_on, given, follow, starts_at}
-use Rattle.salvage.specs.Salvage.{to_start, lost_at, Stretch, good, lost, written, starting, stretches, numbers}
+use Rattle.salvage.specs.Salvage.{to_start, lost_at, Stretch, good, lost, written, starting, numbers}
 
 -- ---- one chunk
 

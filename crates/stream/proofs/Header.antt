@@ -1,5 +1,5 @@
 -- A header out of the bytes that are kept and those lent behind them, over plain lists and numbers.
-use Rattle.std.proofs.Common.{◌≡◌, ℕ, ◌+◌, ◌-◌, ◌*◌, ◌<◌, ◌≤◌, List, [], ◌∷◌, ◌++◌, length, get_or, take, sym, refl, ap, ◌∙◌, arith, length-append, length-take, get_or-take, get_or-append-add}
+use Rattle.std.proofs.Common.{◌≡◌, ℕ, ◌+◌, ◌-◌, ◌*◌, ◌<◌, ◌≤◌, List, [], ◌∷◌, ◌++◌, length, get_or, sym, refl, ap, ◌∙◌, arith, length-append, length-take, get_or-take, get_or-append-add}
 use lib.ListN.{get_or-append, get_or-eq_default}
 use Rattle.wire.specs.Le.{le_of, le_at}
 use Rattle.stream.specs.declared.Stream.{Stream}

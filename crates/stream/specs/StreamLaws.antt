@@ -1,5 +1,5 @@
 -- Laws of the straight-through reader: each case of a call by itself, how many bytes it uses, and what a state keeps of a header.
-use Rattle.std.specs.Prelude.{◌≡◌, ℕ, zero, suc, ◌+◌, ◌-◌, ◌<◌, ◌≤◌, Bool, true, false, cond, not, List, [], ◌∷◌, ◌++◌, length, take, ◌==◌, ◌≢◌, nat_le, nat_lt, slice_index, refl}
+use Rattle.std.specs.Prelude.{◌≡◌, ℕ, ◌+◌, ◌-◌, ◌<◌, ◌≤◌, Bool, true, false, not, List, [], ◌∷◌, ◌++◌, length, take, ◌==◌, ◌≢◌, nat_le, nat_lt, slice_index, refl}
 use Rattle.std.proofs.Common.{sym, ap, ◌∙◌, arith, length-take, length-append}
 use Rattle.std.proofs.Math.Decide.{dec_le}
 use borrow.Author.Tests.{eqb-true, eqb-false, ltb-false, leb-true, lt-ltb, le-ltb, le-leb, lt-leb, eq-eqb, ne_eqb}

@@ -3,7 +3,7 @@ use mathlib.Core.Path.{◌≡◌, sym, ap, ◌∙◌}
 use mathlib.Core.List.{List}
 use Prim.Native.Nat.{ℕ}
 use Rattle.refusal.specs.Number.{number_same}
-use Rattle.refusal.specs.Said.{gives, gives_same, refused_same, gives_not_refused}
+use Rattle.refusal.specs.Said.{gives_same, refused_same, gives_not_refused}
 use Rattle.wire.specs.Le.{num_said, num_at}
 use Rattle.wire.specs.LenEnc.{int_said, len_at, str_said, str_at, byte_str_at}
 use Rattle.wire.specs.Room.{Wrote}

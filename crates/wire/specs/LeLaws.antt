@@ -1,11 +1,11 @@
 -- Laws of little-endian numbers, over the width.
 use Rattle.std.specs.Prelude.{◌≡◌, refl, List, [], ◌∷◌, take, drop, get_or}
 use Rattle.std.proofs.Math.Path.{sym, ap}
-use Rattle.std.proofs.Common.{◌∙◌, subst, add-one, add-zero, length-take, length-drop, drop_of_length-le, get_or-drop, take_all, pow_mono, pow-add}
+use Rattle.std.proofs.Common.{◌∙◌, subst, add-zero, length-take, length-drop, drop_of_length-le, get_or-drop, pow_mono, pow-add}
 use Prim.Native.Nat.{ℕ, zero, suc, ◌+◌, ◌*◌, ◌/◌, ◌%◌, ◌≤◌, ◌<◌, ◌^◌, ◌-◌}
 use native.Mathlib.Omega.{arith}
 use Rattle.std.proofs.Math.ListN.{length}
-use Rattle.std.proofs.Math.Seq.{drop-cons, get_or-take, drop-length}
+use Rattle.std.proofs.Math.Seq.{drop-cons, get_or-take}
 use Rattle.wire.specs.Le.{le_of, le_at, le_bytes}
 
 module _ (s : List ℕ) (at k : ℕ) (fits : at + k ≤ length s) where

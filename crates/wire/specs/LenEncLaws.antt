@@ -1,5 +1,5 @@
 -- Laws of length-encoded integers and strings, for callers: the four shapes, what was written is read back, parts lie within.
-use Rattle.std.specs.Prelude.{◌≡◌, refl, Bool, true, false, cond, ℕ, zero, suc, ◌+◌, ◌*◌, ◌/◌, ◌%◌, ◌≤◌, ◌<◌, ◌^◌, take, get_or, leb, ltb}
+use Rattle.std.specs.Prelude.{◌≡◌, refl, Bool, true, false, cond, ℕ, zero, suc, ◌+◌, ◌/◌, ◌≤◌, ◌<◌, ◌^◌, take, get_or, leb, ltb}
 use Rattle.std.proofs.Common.{sym, ◌∙◌, arith, div-lt_iff_lt-mul, pow-suc, add-zero}
 use Rattle.std.proofs.Math.Path.{ap}
 use mathlib.Core.List.{List, [], ◌∷◌, ◌++◌, append_assoc}
@@ -8,7 +8,7 @@ use borrow.Author.Tests.{lt-ltb, le-ltb, le-leb, lt-leb, leb-true}
 use Rattle.std.proofs.Math.ListN.{length, drop, length-append, length-drop}
 use lib.Seq.{take_at, get_or-drop, drop-drop, drop-append-add}
 use Rattle.refusal.specs.Said.{Said, gives, refused, check, and_then}
-use Rattle.wire.specs.Le.{le_of, le_at, le_bytes}
+use Rattle.wire.specs.Le.{le_of, le_bytes}
 use Rattle.wire.specs.LeLaws.{le_length}
 use Rattle.wire.specs.LenEnc.{len_at, by_lead, led, len_enc_int, len_bytes, str_at, byte_str_at, within, str_bytes, part_of}
 use Rattle.wire.specs.declared.LenEncInt.{LenEncInt}

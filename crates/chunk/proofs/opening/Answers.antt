@@ -1,5 +1,5 @@
 use Rattle.chunk.specs.Read.{opening}
-use Rattle.std.proofs.Common.{rules, le-ltb, lt-ltb, eq-eqb, ne_eqb}
+use Rattle.std.proofs.Common.{le-ltb, lt-ltb, eq-eqb, ne_eqb}
 use Rattle.chunk.proofs.opening.Goals as goal
 
 pub returns-then-limit-eq0 : goal.returns-then-limit-eq0
@@ -10,11 +10,11 @@ pub returns-then-limit-gt-MAX_LIMIT : goal.returns-then-limit-gt-MAX_LIMIT
 unfolding opening
 returns-then-limit-gt-MAX_LIMIT c =
     rw (
-  c.close-then-limit-gt-MAX_LIMIT.ensures,
-  ne_eqb c.args.limit 0 c.if-limit-eq0.false,
-  lt-ltb 1073741824
-      c.args.limit c.if-limit-gt-MAX_LIMIT.true,
-)
+      c.close-then-limit-gt-MAX_LIMIT.ensures,
+      ne_eqb c.args.limit 0 c.if-limit-eq0.false,
+      lt-ltb 1073741824
+          c.args.limit c.if-limit-gt-MAX_LIMIT.true,
+    )
 
 pub returns : goal.returns
 unfolding opening

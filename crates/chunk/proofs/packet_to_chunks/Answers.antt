@@ -1,6 +1,6 @@
 use Rattle.chunk.specs.WriteLaws.{write-closed, write_large, write_no_room, write-whole}
 use Rattle.chunk.specs.Chunks.{largest}
-use Rattle.std.proofs.Common.{arith, rules}
+use Rattle.std.proofs.Common.{arith}
 use Rattle.chunk.proofs.packet_to_chunks.Goals as goal
 
 pub returns-then-codec : goal.returns-then-codec

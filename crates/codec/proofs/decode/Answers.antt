@@ -1,5 +1,4 @@
 use Rattle.codec.proofs.Calls.{reads_framed, reads_plain}
-use borrow.Author.Rules.{rules}
 use Rattle.codec.proofs.decode.Goals as goal
 
 pub returns-then-codec : goal.returns-then-codec

@@ -1,5 +1,4 @@
 use Rattle.codec.proofs.Calls.{writes_framed, writes_plain}
-use borrow.Author.Rules.{rules}
 use Rattle.codec.proofs.encode.Goals as goal
 
 pub returns-then-codec : goal.returns-then-codec

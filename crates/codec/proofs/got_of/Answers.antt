@@ -1,5 +1,4 @@
 use mathlib.Core.Path.{refl}
-use borrow.Author.Rules.{rules}
 use Rattle.codec.proofs.got_of.Goals as goal
 
 pub returns-in-Packet : goal.returns-in-Packet

@@ -1,7 +1,7 @@
-use Rattle.frame.proofs.Rounds.{never, Head, head_first, head_more, head_last, used_in}
+use Rattle.frame.proofs.Rounds.{never, head_first, head_more, head_last, used_in}
 use Rattle.frame.specs.ReadLaws.{framed-closed, framed_no_room, framed_open}
 use Rattle.chunk.specs.Chunks.{largest}
-use Rattle.std.proofs.Common.{◌≡◌, ◌-◌, ◌<◌, ◌≤◌, length, sym, refl, ◌∙◌, arith, rules}
+use Rattle.std.proofs.Common.{sym, refl, ◌∙◌, arith}
 use Rattle.frame.proofs.decode_framed.Goals as goal
 
 pub returns-then-codec : goal.returns-then-codec
@@ -28,18 +28,18 @@ round-r-requires c =
 pub shape_of-staging-then-r-eq0 : goal.shape_of-staging-then-r-eq0
 shape_of-staging-then-r-eq0 c =
     omega (
-  arith,
-  c.round-r.auto.staging,
-  c.loop-r.invariant.long,
-)
+      arith,
+      c.round-r.auto.staging,
+      c.loop-r.invariant.long,
+    )
 
 pub shape_of-dst-then-r-eq0 : goal.shape_of-dst-then-r-eq0
 shape_of-dst-then-r-eq0 c =
     omega (
-  arith,
-  c.round-r.auto.dst,
-  c.loop-r.invariant.same,
-)
+      arith,
+      c.round-r.auto.dst,
+      c.loop-r.invariant.same,
+    )
 
 pub returns-then-r-eq0 : goal.returns-then-r-eq0
 returns-then-r-eq0 c =

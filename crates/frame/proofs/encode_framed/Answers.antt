@@ -2,7 +2,7 @@ use Rattle.frame.proofs.Writing.{total_is, piece_fits, needed-fits}
 use Rattle.frame.specs.WriteLaws.{write-closed, write_never, write_large, write_no_room, write-whole}
 use Rattle.frame.specs.Write.{total}
 use Rattle.chunk.specs.Chunks.{largest}
-use Rattle.std.proofs.Common.{◌<◌, ◌≤◌, length, arith, rules}
+use Rattle.std.proofs.Common.{◌<◌, ◌≤◌, length, arith}
 use Rattle.frame.proofs.encode_framed.Goals as goal
 
 pub returns-then-codec : goal.returns-then-codec

@@ -1,5 +1,4 @@
 use Rattle.salvage.proofs.PlaceLaws.{place_headless, place_large, place-cut, place_takes, place_sync}
-use Rattle.std.proofs.Common.{rules}
 use Rattle.salvage.proofs.chunk_at.Goals as goal
 
 pub returns-then-left-lt4 : goal.returns-then-left-lt4

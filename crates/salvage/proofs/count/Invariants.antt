@@ -1,5 +1,5 @@
-use Rattle.salvage.proofs.RoundLaws.{Counting, counting_begins, counting_turn, counting_ends, count_few, round_within, round_onward}
-use Rattle.std.proofs.Common.{◌+◌, ◌-◌, ◌≤◌, length, arith, rules}
+use Rattle.salvage.proofs.RoundLaws.{Counting}
+use Rattle.std.proofs.Common.{◌-◌, length}
 use Rattle.salvage.proofs.count.Given as goal
 
 abbrev pub invariant-loop-at : goal.invariant-loop-at

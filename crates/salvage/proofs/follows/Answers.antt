@@ -1,6 +1,5 @@
 use Rattle.salvage.proofs.RunLaws.{step-within, follow_none, follow_on, follow_off}
-use Rattle.salvage.specs.Salvage.{follow}
-use Rattle.std.proofs.Common.{◌≡◌, ◌≤◌, length, drop, sym, refl, ◌∙◌, arith, rules}
+use Rattle.std.proofs.Common.{◌≡◌, drop, sym, refl, ◌∙◌, arith}
 use Rattle.salvage.proofs.follows.Goals as goal
 
 pub loop-left-init : goal.loop-left-init

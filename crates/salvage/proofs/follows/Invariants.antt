@@ -1,6 +1,5 @@
-use Rattle.salvage.proofs.RunLaws.{step-within, follow_none, follow_on, follow_off}
 use Rattle.salvage.specs.Salvage.{follow}
-use Rattle.std.proofs.Common.{◌≡◌, ◌≤◌, length, drop, sym, refl, ◌∙◌, arith, rules}
+use Rattle.std.proofs.Common.{◌≡◌, ◌≤◌, length, drop}
 use Rattle.salvage.proofs.follows.Given as goal
 
 abbrev pub invariant-loop-left : goal.invariant-loop-left

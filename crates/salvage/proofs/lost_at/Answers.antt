@@ -1,5 +1,5 @@
 use Rattle.salvage.proofs.RoundLaws.{lost_ends, lost_goes}
-use Rattle.std.proofs.Common.{◌<◌, length, arith, rules}
+use Rattle.std.proofs.Common.{◌<◌, length, arith}
 use Rattle.salvage.proofs.lost_at.Goals as goal
 
 pub returns-then-why-eq0 : goal.returns-then-why-eq0

@@ -1,6 +1,5 @@
 use Rattle.salvage.proofs.RunLaws.{search_here, search_later, search_ends}
-use Rattle.salvage.specs.Salvage.{to_start}
-use Rattle.std.proofs.Common.{◌≡◌, ◌+◌, ◌-◌, ◌≤◌, length, drop, refl, arith, rules}
+use Rattle.std.proofs.Common.{refl, arith}
 use Rattle.salvage.proofs.next_start.Goals as goal
 
 pub loop-at-init : goal.loop-at-init

@@ -1,5 +1,4 @@
 use Rattle.salvage.proofs.PlaceLaws.{given_there, given-cut}
-use Rattle.std.proofs.Common.{rules}
 use Rattle.salvage.proofs.number_at.Goals as goal
 
 pub returns-then-capture-at-lt4 : goal.returns-then-capture-at-lt4

@@ -1,5 +1,5 @@
 use Rattle.salvage.proofs.PutLaws.{put_room, put_some, put_none}
-use Rattle.std.proofs.Common.{◌+◌, ◌≤◌, length, arith, length-set, rules}
+use Rattle.std.proofs.Common.{◌+◌, ◌≤◌, length, arith, length-set}
 use Rattle.salvage.proofs.put.Goals as goal
 
 -- there is room for the four

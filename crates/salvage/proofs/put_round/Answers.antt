@@ -1,5 +1,4 @@
 use Rattle.salvage.proofs.PutLaws.{good_room, lost_room, put_both}
-use Rattle.std.proofs.Common.{rules}
 use Rattle.salvage.proofs.put_round.Goals as goal
 
 pub put-next-requires : goal.put-next-requires

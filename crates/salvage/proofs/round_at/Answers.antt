@@ -1,5 +1,5 @@
 use Rattle.salvage.proofs.RoundLaws.{ran_at, round_is}
-use Rattle.std.proofs.Common.{arith, length-drop, rules}
+use Rattle.std.proofs.Common.{arith, length-drop}
 use Rattle.salvage.proofs.round_at.Goals as goal
 
 pub overflow_add-at : goal.overflow_add-at

@@ -1,5 +1,5 @@
-use Rattle.salvage.proofs.RunLaws.{Going, step-within, going_begins, going_bad, going_took, going_ends}
-use Rattle.std.proofs.Common.{◌-◌, length, arith, rules}
+use Rattle.salvage.proofs.RunLaws.{step-within, going_begins, going_bad, going_took, going_ends}
+use Rattle.std.proofs.Common.{arith}
 use Rattle.salvage.proofs.run_on.Goals as goal
 
 pub loop-at-init : goal.loop-at-init

@@ -1,5 +1,5 @@
-use Rattle.salvage.proofs.RunLaws.{Going, step-within, going_begins, going_bad, going_took, going_ends}
-use Rattle.std.proofs.Common.{◌-◌, length, arith, rules}
+use Rattle.salvage.proofs.RunLaws.{Going}
+use Rattle.std.proofs.Common.{◌-◌, length}
 use Rattle.salvage.proofs.run_on.Given as goal
 
 abbrev pub invariant-loop-at : goal.invariant-loop-at

@@ -1,5 +1,4 @@
 use Rattle.salvage.proofs.EndLaws.{salvage_full, salvage_room, salvage_written, salvage_refused}
-use Rattle.std.proofs.Common.{rules}
 use Rattle.salvage.proofs.salvage.Goals as goal
 
 pub returns-then-out-n : goal.returns-then-out-n

@@ -1,5 +1,4 @@
 use Rattle.salvage.specs.Salvage.{starts_at}
-use Rattle.std.proofs.Common.{rules}
 use Rattle.salvage.proofs.starts_at.Goals as goal
 
 pub returns : goal.returns

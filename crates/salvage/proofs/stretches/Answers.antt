@@ -1,5 +1,4 @@
 use Rattle.salvage.proofs.EndLaws.{counted_none, counted_large, counted_all}
-use Rattle.std.proofs.Common.{rules}
 use Rattle.salvage.proofs.stretches.Goals as goal
 
 pub returns-then-limit-eq0 : goal.returns-then-limit-eq0

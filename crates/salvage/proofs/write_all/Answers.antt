@@ -1,5 +1,5 @@
-use Rattle.salvage.proofs.RoundLaws.{Writing, writing_begins, writing_room, writing_turn, writing_ends, round_within, round_onward}
-use Rattle.std.proofs.Common.{◌-◌, length, arith}
+use Rattle.salvage.proofs.RoundLaws.{writing_begins, writing_room, writing_turn, writing_ends, round_within, round_onward}
+use Rattle.std.proofs.Common.{arith}
 use Rattle.salvage.proofs.write_all.Goals as goal
 
 pub loop-at-init : goal.loop-at-init

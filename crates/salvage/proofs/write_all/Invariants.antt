@@ -1,5 +1,5 @@
-use Rattle.salvage.proofs.RoundLaws.{Writing, writing_begins, writing_room, writing_turn, writing_ends, round_within, round_onward}
-use Rattle.std.proofs.Common.{◌-◌, length, arith}
+use Rattle.salvage.proofs.RoundLaws.{Writing}
+use Rattle.std.proofs.Common.{◌-◌, length}
 use Rattle.salvage.proofs.write_all.Given as goal
 
 abbrev pub invariant-loop-at : goal.invariant-loop-at

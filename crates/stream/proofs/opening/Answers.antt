@@ -1,5 +1,5 @@
 use Rattle.stream.specs.Stream.{opening}
-use Rattle.std.proofs.Common.{rules, le-ltb, lt-ltb, eq-eqb, ne_eqb}
+use Rattle.std.proofs.Common.{le-ltb, lt-ltb, eq-eqb, ne_eqb}
 use Rattle.stream.proofs.opening.Goals as goal
 
 pub returns-then-limit-eq0 : goal.returns-then-limit-eq0

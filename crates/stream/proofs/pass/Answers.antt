@@ -1,6 +1,6 @@
 use Rattle.stream.specs.StreamLaws.{pass-closed, pass_none, pass-header, pass-payload}
 use Rattle.chunk.specs.Chunks.{largest}
-use Rattle.std.proofs.Common.{◌<◌, length, sym, ◌∙◌, arith, rules}
+use Rattle.std.proofs.Common.{◌<◌, length, sym, ◌∙◌, arith}
 use Rattle.stream.proofs.pass.Goals as goal
 
 pub returns-then-stream : goal.returns-then-stream

@@ -1,7 +1,6 @@
 use Rattle.wire.specs.LenEnc.{len_at}
 use borrow.Author.Tests.{le-ltb, lt-ltb, ne_eqb}
 use native.Mathlib.Nat.{add-zero}
-use borrow.Author.Rules.{rules}
 use lib.ListN.{get_or}
 use Rattle.std.proofs.Common.{◌≡◌, arith}
 use Rattle.wire.proofs.checked_eat_lenenc_int.Goals as goal

@@ -2,7 +2,6 @@ use Rattle.wire.specs.LenEnc.{str_at}
 use Rattle.wire.specs.LenEncLaws.{str_short}
 use native.Mathlib.Omega.{arith}
 use mathlib.Core.Path.{sym}
-use borrow.Author.Rules.{rules}
 use Rattle.wire.proofs.checked_eat_lenenc_str.Goals as goal
 
 pub overflow_cast-short : goal.overflow_cast-short

@@ -1,7 +1,6 @@
 use Rattle.wire.specs.LenEnc.{byte_str_at}
 use borrow.Author.Tests.{le-ltb, lt-ltb}
 use native.Mathlib.Omega.{arith}
-use borrow.Author.Rules.{rules}
 use Rattle.wire.proofs.checked_eat_u8_str.Goals as goal
 
 pub returns-then-s-at : goal.returns-then-s-at

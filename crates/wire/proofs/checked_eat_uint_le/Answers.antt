@@ -1,8 +1,6 @@
 use Rattle.wire.specs.RoomLaws.{has_yes, has_no}
 use Rattle.wire.specs.Le.{num_at}
 use borrow.Author.Tests.{le-leb, lt-leb}
-use mathlib.Core.Path.{ap}
-use native.Mathlib.Omega.{arith}
 use lib.ListN.{length}
 use Prim.Native.Nat.{◌+◌, ◌≤◌}
 use borrow.Author.Rules.{rules}

@@ -2,7 +2,6 @@ use borrow.Author.Tests.{le-leb, lt-leb}
 use native.Mathlib.Omega.{arith}
 use lib.ListN.{length}
 use Prim.Native.Nat.{◌+◌}
-use borrow.Author.Rules.{rules}
 use Rattle.wire.proofs.eat_led.Goals as goal
 
 pub returns-then-k-s : goal.returns-then-k-s

@@ -1,9 +1,7 @@
 use Rattle.wire.specs.RoomLaws.{has_yes, has_no}
 use borrow.Author.Tests.{le-leb, lt-leb}
-use native.Mathlib.Omega.{arith}
 use lib.ListN.{length}
 use Prim.Native.Nat.{◌+◌}
-use borrow.Author.Rules.{rules}
 use Rattle.wire.proofs.eat_within.Goals as goal
 
 pub returns-then-has : goal.returns-then-has

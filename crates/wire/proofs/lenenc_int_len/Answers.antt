@@ -3,7 +3,6 @@ use Rattle.wire.specs.Le.{le_bytes}
 use lib.ListN.{length}
 use native.Mathlib.Omega.{arith}
 use mathlib.Core.Path.{ap, sym}
-use borrow.Author.Rules.{rules}
 use Rattle.wire.proofs.lenenc_int_len.Goals as goal
 
 pub returns-then-v-lt251 : goal.returns-then-v-lt251

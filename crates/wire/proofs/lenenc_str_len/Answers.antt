@@ -1,7 +1,6 @@
 use Rattle.wire.specs.LenEncLaws.{len_length}
 use lib.ListN.{length, length-append}
 use native.Mathlib.Omega.{arith}
-use borrow.Author.Rules.{rules}
 use Rattle.wire.proofs.lenenc_str_len.Goals as goal
 
 pub overflow_add-result : goal.overflow_add-result

@@ -1,9 +1,7 @@
 use Rattle.wire.specs.LenEncLaws.{part_fits, part_none}
-use mathlib.Core.Logic.{⊎_elim}
 use native.Mathlib.Nat.{add-sub_cancel_left}
 use native.Mathlib.Omega.{arith}
 use mathlib.Core.Path.{sym}
-use borrow.Author.Rules.{rules}
 use Rattle.wire.proofs.part.Goals as goal
 use Rattle.wire.proofs.part.Goals.{then-at-s+else-n-s, else-at-s}
 

@@ -3,10 +3,9 @@ use Rattle.wire.specs.LeLaws.{le_length}
 use Rattle.wire.specs.Le.{le_bytes}
 use native.Mathlib.Omega.{arith}
 use lib.ListN.{length, length-set}
-use Prim.Native.Nat.{◌+◌, ◌≤◌, suc}
+use Prim.Native.Nat.{◌+◌, ◌≤◌}
 use mathlib.Core.List.{◌∷◌}
 use mathlib.Core.Path.{◌∙◌}
-use borrow.Author.Rules.{rules}
 use Rattle.wire.proofs.put_led.Goals as goal
 
 pub bounds-dst-at : goal.bounds-dst-at

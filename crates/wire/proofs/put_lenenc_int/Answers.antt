@@ -1,6 +1,5 @@
 use Rattle.wire.specs.LenEncLaws.{len_1, len_3, len_4, len_9}
 use native.Mathlib.Omega.{arith}
-use borrow.Author.Rules.{rules}
 use Rattle.wire.proofs.put_lenenc_int.Goals as goal
 
 pub returns-then-v-lt251 : goal.returns-then-v-lt251

@@ -3,15 +3,13 @@ use Prim.Native.Nat.{ℕ}
 use Rattle.wire.specs.Room.{Wrote, patch}
 use Rattle.wire.specs.declared.Put.{Put}
 use Rattle.wire.specs.declared.Put.TheVariants.{Next}
-use Rattle.wire.specs.RoomLaws.{has_yes, has_no, patch-append, length-patch, wrote_full, wrote_next, wrote_left}
+use Rattle.wire.specs.RoomLaws.{has_yes, has_no, patch-append, wrote_full, wrote_next, wrote_left}
 use Rattle.wire.specs.LenEncLaws.{len_length}
 use Rattle.wire.specs.LenEnc.{len_bytes, str_bytes}
 use native.Mathlib.Omega.{arith}
 use lib.ListN.{length, length-append}
-use Prim.Native.Nat.{◌+◌, ◌≤◌, ◌<◌}
-use mathlib.Core.List.{◌++◌}
-use mathlib.Core.Path.{◌≡◌, ◌∙◌, ap, sym}
-use borrow.Author.Rules.{rules}
+use Prim.Native.Nat.{◌+◌, ◌≤◌}
+use mathlib.Core.Path.{◌≡◌}
 use Rattle.wire.proofs.put_lenenc_str.Goals as goal
 
 -- the length, then the bytes

@@ -2,8 +2,7 @@ use Rattle.wire.specs.RoomLaws.{has_yes, has_no, wrote_full, wrote_next}
 use native.Mathlib.Omega.{arith}
 use mathlib.Core.Path.{refl}
 use lib.ListN.{length}
-use Prim.Native.Nat.{◌+◌, ◌≤◌}
-use borrow.Author.Rules.{rules}
+use Prim.Native.Nat.{◌+◌}
 use Rattle.wire.proofs.put_slice.Goals as goal
 
 pub copy-requires : goal.copy-requires

@@ -1,7 +1,6 @@
 use Rattle.wire.specs.RoomLaws.{has_yes, has_no, wrote_full, wrote_next}
 use Rattle.wire.specs.LeLaws.{le_length}
 use Rattle.wire.specs.Le.{le_bytes}
-use mathlib.Core.Path.{ap, sym}
 use native.Mathlib.Omega.{arith}
 use lib.ListN.{length}
 use Prim.Native.Nat.{◌+◌, ◌≤◌}

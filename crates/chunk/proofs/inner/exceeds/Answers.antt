@@ -1,4 +1,4 @@
-use Rattle.std.proofs.Common.{◌+◌, sym, arith, rules, le-ltb, lt-ltb}
+use Rattle.std.proofs.Common.{◌+◌, sym, arith, le-ltb, lt-ltb}
 use Rattle.chunk.proofs.inner.exceeds.Goals as goal
 
 pub returns-then-most-a : goal.returns-then-most-a

@@ -1,7 +1,6 @@
-use Rattle.chunk.proofs.Writing.{Head, head_first, head_more, head_last}
-use Rattle.chunk.specs.ChunksLaws.{needed_last}
-use Rattle.chunk.specs.Chunks.{largest, next, needed}
-use Rattle.std.proofs.Common.{ℕ, ◌-◌, ◌<◌, List, length, arith, rules}
+use Rattle.chunk.proofs.Writing.{head_first, head_more, head_last}
+use Rattle.chunk.specs.Chunks.{next, needed}
+use Rattle.std.proofs.Common.{arith}
 use Rattle.chunk.proofs.inner.put_chunks.Goals as goal
 
 pub loop-at-init : goal.loop-at-init

@@ -1,7 +1,5 @@
-use Rattle.chunk.proofs.Writing.{Head, head_first, head_more, head_last}
-use Rattle.chunk.specs.ChunksLaws.{needed_last}
-use Rattle.chunk.specs.Chunks.{largest, next, needed}
-use Rattle.std.proofs.Common.{ℕ, ◌-◌, ◌<◌, List, length, arith, rules}
+use Rattle.chunk.proofs.Writing.{Head}
+use Rattle.std.proofs.Common.{◌-◌, length}
 use Rattle.chunk.proofs.inner.put_chunks.Given as goal
 
 abbrev pub invariant-loop-at : goal.invariant-loop-at

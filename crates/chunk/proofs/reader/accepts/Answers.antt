@@ -1,4 +1,4 @@
-use Rattle.std.proofs.Common.{rules, eq-eqb, ne_eqb}
+use Rattle.std.proofs.Common.{eq-eqb, ne_eqb}
 use Rattle.chunk.proofs.reader.accepts.Goals as goal
 
 pub returns-then-number-want : goal.returns-then-number-want
@@ -7,10 +7,10 @@ returns-then-number-want c = rw (c.in-Strict.is, eq-eqb c.args.number c.args.wan
 pub returns-then-number-want-2 : goal.returns-then-number-want-2
 returns-then-number-want-2 c =
     rw (
-  c.in-Also.is,
-  eq-eqb c.args.number
-      c.args.want c.if-number-want-2.true,
-)
+      c.in-Also.is,
+      eq-eqb c.args.number
+          c.args.want c.if-number-want-2.true,
+    )
 
 pub returns-then-number-other : goal.returns-then-number-other
 returns-then-number-other c =

@@ -1,7 +1,6 @@
 use Rattle.chunk.specs.ReadLaws.{chunk-short, chunk_sync, chunk_no_room, chunk-took}
 use Rattle.chunk.specs.Chunks.{largest}
-use Rattle.std.proofs.Common.{◌+◌, ◌<◌, ◌≤◌, length, sym, ◌∙◌, arith, rules, ltb-false, ltb-true}
-use borrow.Author.Tests.{not-true, not-false}
+use Rattle.std.proofs.Common.{◌+◌, ◌<◌, ◌≤◌, length, sym, ◌∙◌, arith, ltb-false, ltb-true}
 use Rattle.chunk.proofs.reader.chunk.Goals as goal
 
 pub returns-then-exceeds : goal.returns-then-exceeds

@@ -1,7 +1,7 @@
 use Rattle.chunk.specs.ReadLaws.{headed_empty, headed_large, headed_held}
 use Rattle.chunk.specs.Chunks.{largest}
 use Rattle.wire.specs.Le.{le_at}
-use Rattle.std.proofs.Common.{◌+◌, get_or, sym, ◌∙◌, rules, ltb-false, ltb-true}
+use Rattle.std.proofs.Common.{◌+◌, get_or, sym, ◌∙◌, ltb-false, ltb-true}
 use Rattle.chunk.proofs.reader.headed_chunk.Goals as goal
 
 pub returns-then-len-eq0 : goal.returns-then-len-eq0

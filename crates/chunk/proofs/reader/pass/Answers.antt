@@ -1,5 +1,4 @@
 use Rattle.chunk.specs.Chunks.{next}
-use Rattle.std.proofs.Common.{rules}
 use Rattle.chunk.proofs.reader.pass.Goals as goal
 
 pub returns : goal.returns

@@ -1,4 +1,3 @@
-use Rattle.std.proofs.Common.{rules}
 use Rattle.chunk.proofs.reader.stop.Goals as goal
 
 pub returns-then-closes : goal.returns-then-closes

@@ -1,7 +1,6 @@
 use Rattle.chunk.proofs.Reading.{took_put}
 use Rattle.chunk.specs.ReadLaws.{took_more_lem, took_last_lem}
 use Rattle.chunk.specs.Chunks.{largest}
-use Rattle.std.proofs.Common.{rules}
 use Rattle.chunk.proofs.reader.take_chunk.Goals as goal
 
 pub returns-then-len-eq-MAX_PAYLOAD_LEN : goal.returns-then-len-eq-MAX_PAYLOAD_LEN

@@ -1,6 +1,6 @@
 use Rattle.chunk.specs.ReadLaws.{turn_short, turn_headed, turn_held}
 use Rattle.chunk.specs.Chunks.{largest}
-use Rattle.std.proofs.Common.{sym, ◌∙◌, rules}
+use Rattle.std.proofs.Common.{sym, ◌∙◌}
 use Rattle.chunk.proofs.reader.turn.Goals as goal
 
 pub returns-then-st : goal.returns-then-st

@@ -1,4 +1,4 @@
-use Rattle.std.proofs.Common.{◌∙◌, arith, length-set, rules}
+use Rattle.std.proofs.Common.{arith, length-set}
 use Rattle.chunk.proofs.Writing.{chunk_put}
 use Rattle.chunk.proofs.writer.put_chunk.Goals as goal
 

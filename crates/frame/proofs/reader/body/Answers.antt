@@ -1,9 +1,7 @@
 use Rattle.frame.specs.ReadLaws.{body-short, body_sync, body_no_room, body-took}
-use Rattle.frame.specs.Read.{Lap}
 use Rattle.frame.specs.Codec.{unread_of}
 use Rattle.wire.specs.RoomLaws.{has_yes, has_no}
-use borrow.Author.Tests.{not-true, not-false}
-use Rattle.std.proofs.Common.{◌≡◌, ℕ, ◌+◌, ◌<◌, ◌≤◌, List, length, sym, ap, ◌∙◌, arith, rules}
+use Rattle.std.proofs.Common.{◌+◌, ◌<◌, ◌≤◌, length, arith}
 use Rattle.frame.proofs.reader.body.Goals as goal
 
 pub returns-then-not-has : goal.returns-then-not-has

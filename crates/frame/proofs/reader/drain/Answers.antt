@@ -1,5 +1,5 @@
 use Rattle.frame.proofs.Rounds.{drain_fits, drain_is}
-use Rattle.std.proofs.Common.{sym, arith, length-take-le, rules}
+use Rattle.std.proofs.Common.{sym, arith, length-take-le}
 use Rattle.frame.proofs.reader.drain.Goals as goal
 
 pub slice_bounds-decode_with-end-2 : goal.slice_bounds-decode_with-end-2

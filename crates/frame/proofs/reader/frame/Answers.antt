@@ -1,7 +1,6 @@
 use Rattle.frame.specs.ReadLaws.{frame-short, frame-headed, frame_held}
-use Rattle.frame.specs.Read.{Lap}
 use Rattle.frame.specs.Codec.{unread_of}
-use Rattle.std.proofs.Common.{◌≡◌, length, sym, ap, ◌∙◌, rules}
+use Rattle.std.proofs.Common.{length}
 use Rattle.frame.proofs.reader.frame.Goals as goal
 
 pub returns-then-codec : goal.returns-then-codec

@@ -1,8 +1,7 @@
 use Rattle.frame.specs.ReadLaws.{headed_large, headed_full, headed_empty, headed_bad, headed_held, headed_packed}
-use Rattle.frame.specs.Read.{Lap}
 use Rattle.frame.specs.Codec.{unread_of}
 use Rattle.wire.specs.Le.{le_at}
-use Rattle.std.proofs.Common.{◌≡◌, List, length, get_or, sym, ap, ◌∙◌, rules}
+use Rattle.std.proofs.Common.{length, get_or, sym, ◌∙◌}
 use Rattle.frame.proofs.reader.header.Goals as goal
 
 pub returns-then-codec-len : goal.returns-then-codec-len

@@ -1,7 +1,7 @@
 use Rattle.frame.proofs.Rounds.{less, round_frame, round_stop, round_empty}
 use Rattle.frame.specs.Read.{done_of}
 use borrow.Author.Tests.{not-true}
-use Rattle.std.proofs.Common.{◌≡◌, sym, ◌∙◌, arith, rules}
+use Rattle.std.proofs.Common.{sym, ◌∙◌, arith}
 use Rattle.frame.proofs.reader.round.Goals as goal
 
 pub returns-then-not-codec : goal.returns-then-not-codec

@@ -1,5 +1,4 @@
 use Rattle.frame.proofs.Rounds.{frame-taken}
-use Rattle.std.proofs.Common.{rules}
 use Rattle.frame.proofs.reader.take_frame.Goals as goal
 
 pub returns : goal.returns

@@ -1,7 +1,7 @@
 use Rattle.frame.proofs.Moves.{moved_store, patch_same}
 use Rattle.wire.specs.RoomLaws.{paste_patch}
-use lib.Seq.{paste, paste-zero}
-use Rattle.std.proofs.Common.{◌≡◌, ◌+◌, ◌-◌, ◌<◌, ◌≤◌, length, take, drop, sym, refl, ap, ◌∙◌, add-one, arith, length-drop, length-set, length-take, rules}
+use lib.Seq.{paste-zero}
+use Rattle.std.proofs.Common.{◌≡◌, length, take, drop, refl, ◌∙◌, add-one, arith, length-drop, length-set, length-take}
 use Rattle.frame.proofs.shift.shift_left.Goals as goal
 
 pub returns-then-to-from : goal.returns-then-to-from

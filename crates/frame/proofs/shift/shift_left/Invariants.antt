@@ -1,7 +1,5 @@
-use Rattle.frame.proofs.Moves.{moved_store, patch_same}
-use Rattle.wire.specs.RoomLaws.{paste_patch}
-use lib.Seq.{paste, paste-zero}
-use Rattle.std.proofs.Common.{◌≡◌, ◌+◌, ◌-◌, ◌<◌, ◌≤◌, length, take, drop, sym, refl, ap, ◌∙◌, add-one, arith, length-drop, length-set, length-take, rules}
+use lib.Seq.{paste}
+use Rattle.std.proofs.Common.{◌≡◌, ◌-◌, ◌≤◌, length, take, drop}
 use Rattle.frame.proofs.shift.shift_left.Given as goal
 
 abbrev pub invariant-loop-i : goal.invariant-loop-i

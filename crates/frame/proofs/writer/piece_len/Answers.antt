@@ -1,6 +1,6 @@
 use Rattle.frame.specs.Write.{piece_of}
 use Rattle.chunk.specs.Chunks.{largest}
-use Rattle.std.proofs.Common.{rules, le-ltb, lt-ltb}
+use Rattle.std.proofs.Common.{le-ltb, lt-ltb}
 use Rattle.frame.proofs.writer.piece_len.Goals as goal
 
 pub returns-then-limit-gt-MAX_PAYLOAD_LEN : goal.returns-then-limit-gt-MAX_PAYLOAD_LEN

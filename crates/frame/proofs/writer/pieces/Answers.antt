@@ -1,4 +1,4 @@
-use Rattle.std.proofs.Common.{refl, rules}
+use Rattle.std.proofs.Common.{refl}
 use Rattle.frame.specs.Frames.{ceil}
 use Rattle.frame.proofs.writer.pieces.Goals as goal
 

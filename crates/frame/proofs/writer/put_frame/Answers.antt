@@ -1,5 +1,5 @@
 use Rattle.frame.proofs.Writing.{frame_put}
-use Rattle.std.proofs.Common.{arith, length-set, rules}
+use Rattle.std.proofs.Common.{arith, length-set}
 use Rattle.frame.proofs.writer.put_frame.Goals as goal
 
 pub put_le-requires-2 : goal.put_le-requires-2

@@ -1,6 +1,6 @@
-use Rattle.frame.proofs.Writing.{Head, head_first, head_more, head_last}
+use Rattle.frame.proofs.Writing.{head_first, head_more, head_last}
 use Rattle.chunk.specs.Chunks.{next}
-use Rattle.std.proofs.Common.{◌≡◌, sym, refl, ◌∙◌, arith, rules}
+use Rattle.std.proofs.Common.{arith}
 use Rattle.frame.proofs.writer.put_frames.Goals as goal
 
 pub loop-left-init : goal.loop-left-init

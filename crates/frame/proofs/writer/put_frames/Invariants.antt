@@ -1,6 +1,4 @@
-use Rattle.frame.proofs.Writing.{Head, head_first, head_more, head_last}
-use Rattle.chunk.specs.Chunks.{next}
-use Rattle.std.proofs.Common.{◌≡◌, sym, refl, ◌∙◌, arith, rules}
+use Rattle.frame.proofs.Writing.{Head}
 use Rattle.frame.proofs.writer.put_frames.Given as goal
 
 abbrev pub invariant-loop-left : goal.invariant-loop-left

@@ -1,6 +1,6 @@
 use Rattle.frame.proofs.Writing.{packet_put}
-use Rattle.chunk.specs.Chunks.{largest, needed}
-use Rattle.std.proofs.Common.{◌<◌, arith, rules}
+use Rattle.chunk.specs.Chunks.{needed}
+use Rattle.std.proofs.Common.{◌<◌, arith}
 use Rattle.frame.proofs.writer.put_packet.Goals as goal
 
 pub put_frames-requires : goal.put_frames-requires

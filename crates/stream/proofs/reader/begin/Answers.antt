@@ -1,5 +1,4 @@
 use Rattle.chunk.specs.Chunks.{next}
-use Rattle.std.proofs.Common.{rules}
 use Rattle.stream.proofs.reader.begin.Goals as goal
 
 pub returns : goal.returns

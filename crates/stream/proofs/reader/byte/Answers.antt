@@ -1,6 +1,6 @@
 use Rattle.stream.proofs.Header.{byte_kept, byte_lent, byte_none}
 use Rattle.stream.specs.Stream.{kept}
-use Rattle.std.proofs.Common.{sym, ◌∙◌, rules}
+use Rattle.std.proofs.Common.{sym, ◌∙◌}
 use Rattle.stream.proofs.reader.byte.Goals as goal
 
 pub returns-then-i-g : goal.returns-then-i-g

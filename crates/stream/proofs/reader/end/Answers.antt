@@ -1,4 +1,3 @@
-use Rattle.std.proofs.Common.{rules}
 use Rattle.stream.proofs.reader.end.Goals as goal
 
 pub returns-then-st : goal.returns-then-st

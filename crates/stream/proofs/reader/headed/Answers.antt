@@ -1,6 +1,6 @@
 use Rattle.stream.specs.StreamLaws.{headed_empty, headed_large, headed-some}
 use Rattle.chunk.specs.Chunks.{largest}
-use Rattle.std.proofs.Common.{◌+◌, sym, ◌∙◌, arith, rules, ltb-false, ltb-true}
+use Rattle.std.proofs.Common.{◌+◌, sym, ◌∙◌, arith, ltb-false, ltb-true}
 use Rattle.stream.proofs.reader.headed.Goals as goal
 
 pub returns-then-len-eq0 : goal.returns-then-len-eq0

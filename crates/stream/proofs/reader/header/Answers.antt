@@ -2,7 +2,7 @@ use Rattle.stream.proofs.Header.{header_read}
 use Rattle.stream.specs.StreamLaws.{kept-most, header-short}
 use Rattle.stream.specs.Stream.{kept}
 use Rattle.chunk.specs.Chunks.{largest}
-use Rattle.std.proofs.Common.{◌<◌, ◌++◌, length, ◌∙◌, arith, length-append, rules}
+use Rattle.std.proofs.Common.{◌<◌, ◌++◌, length, ◌∙◌, arith, length-append}
 use Rattle.stream.proofs.reader.header.Goals as goal
 
 pub overflow_sub-at : goal.overflow_sub-at

@@ -1,6 +1,6 @@
 use Rattle.stream.proofs.Header.{none_kept, three_bytes}
 use Rattle.stream.specs.Stream.{kept}
-use Rattle.std.proofs.Common.{◌≤◌, ◌++◌, length, sym, ◌∙◌, arith, length-append, rules}
+use Rattle.std.proofs.Common.{◌≤◌, ◌++◌, length, sym, ◌∙◌, arith, length-append}
 use Rattle.stream.proofs.reader.header_len.Goals as goal
 
 pub returns-then-kept_len-eq0 : goal.returns-then-kept_len-eq0

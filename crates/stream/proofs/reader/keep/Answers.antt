@@ -1,5 +1,5 @@
 use Rattle.stream.specs.Stream.{kept}
-use Rattle.std.proofs.Common.{refl, length-append, rules}
+use Rattle.std.proofs.Common.{refl, length-append}
 use Rattle.stream.proofs.reader.keep.Goals as goal
 
 pub returns : goal.returns

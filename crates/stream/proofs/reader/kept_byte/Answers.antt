@@ -1,5 +1,5 @@
 use Rattle.stream.specs.StreamLaws.{kept-most}
-use Rattle.std.proofs.Common.{◌≡◌, sym, ◌∙◌, arith, rules}
+use Rattle.std.proofs.Common.{◌≡◌, sym, ◌∙◌, arith}
 use Rattle.stream.proofs.Header.{kept_at}
 use Rattle.stream.proofs.reader.kept_byte.Goals as goal
 

@@ -1,5 +1,4 @@
 use Rattle.stream.proofs.Header.{three_kept, got_kept}
-use Rattle.std.proofs.Common.{rules}
 use Rattle.stream.proofs.reader.kept_len.Goals as goal
 
 pub returns-then-st-gt3 : goal.returns-then-st-gt3

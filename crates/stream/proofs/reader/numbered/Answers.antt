@@ -1,6 +1,6 @@
 use Rattle.stream.specs.StreamLaws.{numbered_wrong, numbered_right}
 use Rattle.chunk.specs.Chunks.{largest}
-use Rattle.std.proofs.Common.{sym, ◌∙◌, rules}
+use Rattle.std.proofs.Common.{sym, ◌∙◌}
 use Rattle.stream.proofs.reader.numbered.Goals as goal
 
 pub returns-then-num-st : goal.returns-then-num-st

@@ -1,5 +1,4 @@
 use Rattle.stream.specs.StreamLaws.{payload-rest, payload-some}
-use Rattle.std.proofs.Common.{rules}
 use Rattle.stream.proofs.reader.payload.Goals as goal
 
 pub returns-then-n-st : goal.returns-then-n-st

@@ -1,6 +1,5 @@
 use Rattle.wire.specs.RoomLaws.{both_ends}
 use native.Mathlib.Omega.{arith}
-use borrow.Author.Rules.{rules}
 use Rattle.wire.proofs.inner.copy.Goals as goal
 
 pub returns-then-n-le16 : goal.returns-then-n-le16

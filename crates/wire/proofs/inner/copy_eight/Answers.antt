@@ -1,6 +1,5 @@
 use native.Mathlib.Omega.{arith}
 use Rattle.wire.specs.LeLaws.{le_part}
-use borrow.Author.Rules.{rules}
 use Rattle.wire.proofs.inner.copy_eight.Goals as goal
 
 pub returns : goal.returns

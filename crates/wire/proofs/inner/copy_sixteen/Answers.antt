@@ -4,7 +4,6 @@ use lib.ListN.{take, drop}
 use mathlib.Core.List.{List}
 use mathlib.Core.Path.{ap, ◌∙◌}
 use Prim.Native.Nat.{ℕ, ◌+◌}
-use borrow.Author.Rules.{rules}
 use Rattle.wire.proofs.inner.copy_sixteen.Goals as goal
 
 pub returns : goal.returns

@@ -1,6 +1,5 @@
 use Rattle.wire.specs.LeLaws.{two_halves}
 use native.Mathlib.Omega.{arith}
-use borrow.Author.Rules.{rules}
 use Rattle.wire.proofs.inner.eight.Goals as goal
 
 pub returns : goal.returns

@@ -3,7 +3,6 @@ use Rattle.wire.specs.Fields.{just}
 use Prim.Native.Nat.{◌*◌}
 use lib.ListN.{length}
 use lib.Pow.{pow_pos}
-use borrow.Author.Rules.{rules}
 use Rattle.wire.proofs.inner.field_just.Goals as goal
 
 pub returns-then-b-size : goal.returns-then-b-size

@@ -3,7 +3,6 @@ use Rattle.wire.specs.Fields.{since}
 use Prim.Native.Nat.{◌*◌}
 use lib.ListN.{length}
 use lib.Pow.{pow_pos}
-use borrow.Author.Rules.{rules}
 use Rattle.wire.proofs.inner.field_since.Goals as goal
 
 pub returns-then-least-b : goal.returns-then-least-b

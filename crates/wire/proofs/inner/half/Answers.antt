@@ -2,7 +2,6 @@ use Rattle.wire.specs.LeLaws.{four_bytes}
 use native.Mathlib.Omega.{arith}
 use mathlib.Core.Path.{sym}
 use Prim.Native.Nat.{◌+◌}
-use borrow.Author.Rules.{rules}
 use Rattle.wire.proofs.inner.half.Goals as goal
 
 pub overflow_cast-result : goal.overflow_cast-result

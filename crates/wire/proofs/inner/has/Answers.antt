@@ -2,7 +2,6 @@ use borrow.Author.Tests.{le-leb, lt-leb}
 use native.Mathlib.Omega.{arith}
 use Prim.Native.Nat.{◌+◌}
 use lib.ListN.{length}
-use borrow.Author.Rules.{rules}
 use Rattle.wire.proofs.inner.has.Goals as goal
 
 pub returns-then-s-at : goal.returns-then-s-at

@@ -1,11 +1,9 @@
-use borrow.Author.Rules.{rules}
-use mathlib.Core.Path.{◌≡◌, refl, sym, ap, ◌∙◌}
-use Prim.Native.Nat.{ℕ, suc, ◌+◌, ◌*◌, ◌≤◌, ◌<◌, ◌-◌, ◌^◌}
+use mathlib.Core.Path.{◌≡◌, sym}
+use Prim.Native.Nat.{◌+◌, ◌*◌, ◌<◌, ◌-◌}
 use native.Mathlib.Omega.{arith}
-use lib.ListN.{length, take, drop, get_or}
+use lib.ListN.{get_or}
 use lib.Pow.{pow_pos}
 use native.Mathlib.Nat.{sub-zero}
-use Rattle.wire.specs.Le.{le_of}
 use Rattle.wire.specs.LeLaws.{le_none, le_step, room, grow}
 use Rattle.wire.proofs.inner.le.Goals as goal
 

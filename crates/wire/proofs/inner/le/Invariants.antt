@@ -1,12 +1,7 @@
-use borrow.Author.Rules.{rules}
-use mathlib.Core.Path.{◌≡◌, refl, sym, ap, ◌∙◌}
-use Prim.Native.Nat.{ℕ, suc, ◌+◌, ◌*◌, ◌≤◌, ◌<◌, ◌-◌, ◌^◌}
-use native.Mathlib.Omega.{arith}
-use lib.ListN.{length, take, drop, get_or}
-use lib.Pow.{pow_pos}
-use native.Mathlib.Nat.{sub-zero}
+use mathlib.Core.Path.{◌≡◌}
+use Prim.Native.Nat.{◌*◌, ◌≤◌, ◌<◌, ◌-◌, ◌^◌}
+use lib.ListN.{take, drop}
 use Rattle.wire.specs.Le.{le_of}
-use Rattle.wire.specs.LeLaws.{le_none, le_step, room, grow}
 use Rattle.wire.proofs.inner.le.Given as goal
 
 abbrev pub invariant-loop-i : goal.invariant-loop-i

@@ -1,20 +1,17 @@
-use borrow.Author.Rules.{rules}
-use mathlib.Core.Path.{◌≡◌, refl, sym, ap, ◌∙◌}
-use mathlib.Core.List.{List}
-use Prim.Native.Nat.{ℕ, suc, ◌+◌, ◌≤◌, ◌<◌, ◌-◌, ◌/◌, ◌%◌}
+use mathlib.Core.Path.{refl, ap, ◌∙◌}
+use Prim.Native.Nat.{ℕ, ◌<◌}
 use native.Mathlib.Omega.{arith}
 use native.Mathlib.Numerals.{add-one}
 use native.Mathlib.Nat.{sub-zero}
-use lib.ListN.{length, drop, set, get_or, length-set}
-use lib.Seq.{paste, paste-zero, paste-suc}
+use lib.ListN.{length-set}
+use lib.Seq.{paste-zero, paste-suc}
 use Rattle.wire.specs.Le.{le_bytes}
 use Rattle.wire.specs.LeLaws.{le_length, byte_next, bytes_next}
 use Rattle.wire.specs.RoomLaws.{paste_patch}
 use Rattle.wire.proofs.inner.put_le.Goals as goal
 
 pub loop-i-init : goal.loop-i-init
-loop-i-init c =
-    (
+loop-i-init c = (
   omega arith,
   paste-zero c.args.dst.now c.args.at (le_bytes c.args.k c.args.v),
   ap (λ (n : ℕ). le_bytes n c.args.v)

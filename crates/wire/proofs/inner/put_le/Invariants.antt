@@ -1,15 +1,8 @@
-use borrow.Author.Rules.{rules}
-use mathlib.Core.Path.{◌≡◌, refl, sym, ap, ◌∙◌}
-use mathlib.Core.List.{List}
-use Prim.Native.Nat.{ℕ, suc, ◌+◌, ◌≤◌, ◌<◌, ◌-◌, ◌/◌, ◌%◌}
-use native.Mathlib.Omega.{arith}
-use native.Mathlib.Numerals.{add-one}
-use native.Mathlib.Nat.{sub-zero}
-use lib.ListN.{length, drop, set, get_or, length-set}
-use lib.Seq.{paste, paste-zero, paste-suc}
+use mathlib.Core.Path.{◌≡◌}
+use Prim.Native.Nat.{◌≤◌, ◌-◌}
+use lib.ListN.{length, drop}
+use lib.Seq.{paste}
 use Rattle.wire.specs.Le.{le_bytes}
-use Rattle.wire.specs.LeLaws.{le_length, byte_next, bytes_next}
-use Rattle.wire.specs.RoomLaws.{paste_patch}
 use Rattle.wire.proofs.inner.put_le.Given as goal
 
 abbrev pub invariant-loop-i : goal.invariant-loop-i

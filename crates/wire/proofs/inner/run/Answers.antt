@@ -1,11 +1,9 @@
 use Rattle.wire.specs.RoomLaws.{paste_patch}
-use lib.Seq.{paste, paste-zero, paste-suc}
-use lib.ListN.{length, length-set}
+use lib.Seq.{paste-zero, paste-suc}
+use lib.ListN.{length-set}
 use native.Mathlib.Numerals.{add-one}
 use native.Mathlib.Omega.{arith}
-use Prim.Native.Nat.{◌+◌, ◌-◌, ◌≤◌}
-use mathlib.Core.Path.{◌≡◌, refl, ◌∙◌}
-use borrow.Author.Rules.{rules}
+use mathlib.Core.Path.{refl, ◌∙◌}
 use Rattle.wire.proofs.inner.run.Goals as goal
 
 pub loop-i-init : goal.loop-i-init

@@ -1,11 +1,7 @@
-use Rattle.wire.specs.RoomLaws.{paste_patch}
-use lib.Seq.{paste, paste-zero, paste-suc}
-use lib.ListN.{length, length-set}
-use native.Mathlib.Numerals.{add-one}
-use native.Mathlib.Omega.{arith}
-use Prim.Native.Nat.{◌+◌, ◌-◌, ◌≤◌}
-use mathlib.Core.Path.{◌≡◌, refl, ◌∙◌}
-use borrow.Author.Rules.{rules}
+use lib.Seq.{paste}
+use lib.ListN.{length}
+use Prim.Native.Nat.{◌-◌, ◌≤◌}
+use mathlib.Core.Path.{◌≡◌}
 use Rattle.wire.proofs.inner.run.Given as goal
 
 abbrev pub invariant-loop-i : goal.invariant-loop-i

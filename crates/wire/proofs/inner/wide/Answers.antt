@@ -2,7 +2,6 @@ use Rattle.wire.specs.RoomLaws.{run_and_words}
 use native.Mathlib.Omega.{arith}
 use Prim.Native.Nat.{◌+◌, ◌-◌, ◌*◌, ◌/◌, ◌%◌}
 use lib.ListN.{length}
-use borrow.Author.Rules.{rules}
 use Rattle.wire.proofs.inner.wide.Goals as goal
 
 pub returns : goal.returns
