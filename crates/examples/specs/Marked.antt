@@ -1,7 +1,7 @@
 -- "Marked examples (one table, one statement)". Each row is an equation of the definition that the contracts cite, and holds by
 -- computation alone.
 use Rattle.std.specs.Prelude.{◌≡◌, refl, true, false, pos, negsuc}
-use mathlib.Core.List.{List, [], ◌∷◌, flatten}
+use mathlib.Core.List.{[], ◌∷◌, flatten}
 use Rattle.refusal.specs.Said.{gives, refused}
 use Rattle.wire.specs.Le.{le_of, le_bytes}
 use Rattle.wire.specs.LenEnc.{len_bytes, byte_str_at, part_of}

@@ -22,7 +22,7 @@ use Rattle.stream.specs.declared.Stream.{Stream}
 use Rattle.line.specs.Host.{Event, handed, refusal, Reader, Habit, Host, first, calls}
 use Rattle.line.specs.HostLaws as H
 use Rattle.line.specs.Code.{called_of, plain_end}
-use Rattle.line.specs.Straight.{Watched, still, before, Agrees, same, sooner}
+use Rattle.line.specs.Straight.{Watched, before, Agrees, same, sooner}
 use Rattle.line.proofs.Plain.{steady, within}
 use Rattle.line.proofs.Passes.{headed_wrong, headed_right, run, run_none, run_refused, run_keeps, run_ends, run_cut}
 

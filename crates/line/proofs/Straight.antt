@@ -1,7 +1,7 @@
 -- Request W7: over any cutting of any input the straight-through reader's host sees what the waiting one's does (`straight`), and what
 -- that means for the packets (`packets_same`) and for a refusal (`whole_same`, `refusal_same`),
 -- also where the waiting host's bytes are cut in other pieces (`packets_served`).
-use Prim.Native.Nat.{ℕ, zero, suc, ◌+◌, ◌≤◌}
+use Prim.Native.Nat.{ℕ, zero, suc, ◌≤◌}
 use mathlib.Core.Path.{◌≡◌, refl, sym, ap, ◌∙◌, subst, fun_ext}
 use mathlib.Core.Bool.{Bool, true, false, cond}
 use mathlib.Core.List.{List, [], ◌∷◌, ◌++◌, append-nil, flatten, map}

@@ -1,5 +1,5 @@
 -- What a line does, over any units (chunks here; frames in W13): it loses, repeats or moves whole ones.
-use Rattle.std.specs.Prelude.{ℕ, suc, ◌+◌, ◌<◌, ◌≡◌, ◌≢◌, List, [], ◌∷◌, ◌++◌, length, get_or}
+use Rattle.std.specs.Prelude.{ℕ, ◌+◌, ◌<◌, ◌≡◌, ◌≢◌, List, [], ◌∷◌, ◌++◌, length, get_or}
 
 -- the bytes that arrive: unit number j of those written, cs, for each j of a in turn. Any list a is a line: what is not in it is
 -- lost, what is twice in it is repeated, what stands elsewhere is moved

@@ -2,7 +2,7 @@
 -- `number` its sequence number.
 use Rattle.std.specs.Prelude.{ℕ, suc, ◌+◌, ◌-◌, ◌%◌, ◌≤◌, ◌<◌, ◌≡◌, cond, length, take, get_or, replicate, ltb, eqb}
 use mathlib.Core.List.{List, [], ◌∷◌, ◌++◌, map, flatten}
-use Rattle.line.specs.Host.{Event, handed, refusal, Reader, Habit, Host, serve}
+use Rattle.line.specs.Host.{handed, refusal, Reader, Habit, serve}
 use Rattle.line.specs.Arrivals.{arrived, Real, InPlace, Misplaced}
 use Rattle.line.specs.Written.{written, writer, complete, begun}
 

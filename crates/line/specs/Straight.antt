@@ -1,5 +1,5 @@
 -- Request W7: what a host sees through a straight-through reader, beside what it sees through the waiting one. m is the piece size.
-use Rattle.std.specs.Prelude.{ℕ, zero, suc, ◌+◌, ◌-◌, ◌%◌, ◌≤◌, ◌<◌, ◌≡◌, Bool, true, false, cond, length, take, drop, get_or, eqb}
+use Rattle.std.specs.Prelude.{ℕ, zero, suc, ◌+◌, ◌-◌, ◌%◌, ◌≤◌, ◌<◌, ◌≡◌, Bool, true, false, cond, length, take, drop, eqb}
 use mathlib.Core.List.{List, [], ◌∷◌, ◌++◌, map, flatten}
 use Rattle.wire.specs.Le.{le_at}
 use Rattle.chunk.specs.Chunks.{largest}

@@ -1,5 +1,5 @@
 -- How a packet's numbers stand in the list, and how the answers of the room make a status: one law for each way out.
-use Rattle.std.proofs.Common.{◌≡◌, ℕ, ◌+◌, ◌<◌, ◌≤◌, Bool, true, false, cond, eqb, leb, List, [], ◌∷◌, length, sym, refl, ap, ◌∙◌, le-leb}
+use Rattle.std.proofs.Common.{◌≡◌, ℕ, ◌+◌, ◌<◌, ◌≤◌, Bool, true, false, cond, eqb, leb, List, length, refl, ap, ◌∙◌, le-leb}
 use borrow.Author.Tests.{lt-leb}
 use Rattle.refusal.specs.Said.{Said, gives, refused, check}
 use Rattle.wire.specs.Room.{patch, put_said}

@@ -1,5 +1,5 @@
 -- What the packet entries make of a state: one law for each way out.
-use Rattle.std.proofs.Common.{◌≡◌, ℕ, ◌<◌, ◌≤◌, Bool, true, false, cond, List, length, sym, refl, ap, ◌∙◌, le-ltb, lt-ltb}
+use Rattle.std.proofs.Common.{◌≡◌, ℕ, ◌<◌, ◌≤◌, Bool, true, false, List, length, sym, refl, ap, ◌∙◌, le-ltb, lt-ltb}
 use Rattle.refusal.specs.Number.{number}
 use Rattle.wire.specs.Room.{put_said}
 use Rattle.wire.specs.declared.Put.{Put}
@@ -10,14 +10,10 @@ use Rattle.chunk.specs.Read.{refused}
 use Rattle.chunk.specs.ReadLaws.{read-closed}
 use Rattle.chunk.specs.declared.Tolerance.TheVariants.{Strict}
 use Rattle.frame.specs.Codec.{plain_of, unread_of}
-use Rattle.frame.specs.Read.{Done}
 use Rattle.frame.specs.ReadLaws.{framed-closed}
-use Rattle.frame.specs.Write.{Sent}
 use Rattle.frame.specs.declared.PacketCodec.{PacketCodec}
-use Rattle.codec.specs.Connection.{Opening, opening, opened_said, read_packet, read_plain, write_packet, got_said, got_used, done_of, staging_stays, Reading, Writing}
+use Rattle.codec.specs.Connection.{Opening, opening, read_packet, read_plain, write_packet, got_said, got_used, done_of, staging_stays, Reading, Writing}
 use Rattle.codec.specs.ConnectionLaws.{framed-reader}
-use Rattle.codec.specs.declared.Opened.{Opened}
-use Rattle.codec.specs.declared.Opened.TheVariants as O
 use Rattle.codec.specs.declared.Got.{Got}
 use Rattle.mishkeldur.specs.Face.{flag_no}
 use Rattle.mishkeldur.specs.State.{codec_of, keeping, opening_status, opening_codec, answer_status, packet_len, Opens, Changes, Looks, Reads, Writes}

@@ -1,5 +1,5 @@
 -- The state of a straight-through reader: how its bytes are read and put, and what the entries make of it: one law for each way out.
-use Rattle.std.proofs.Common.{◌≡◌, ℕ, ◌<◌, ◌≤◌, Bool, true, false, cond, eqb, List, [], ◌∷◌, ◌++◌, length, get_or, set, sym, refl, ap, ◌∙◌, arith, length-append, le-ltb, lt-ltb}
+use Rattle.std.proofs.Common.{◌≡◌, ℕ, ◌<◌, ◌≤◌, Bool, true, false, eqb, List, [], ◌∷◌, ◌++◌, length, get_or, set, sym, refl, ap, ◌∙◌, arith, length-append, le-ltb, lt-ltb}
 use lib.Seq.{sets-eq}
 use mir.Val.{bool_byte}
 use Rattle.wire.specs.Le.{le_at, le_bytes}

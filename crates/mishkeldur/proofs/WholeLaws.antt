@@ -1,7 +1,7 @@
 -- The common case of reading is the reader's: by the bytes of the state alone, of which it changes one.
 use Rattle.std.proofs.Common.{◌≡◌, ℕ, zero, suc, ◌+◌, ◌-◌, ◌%◌, ◌<◌, ◌≤◌, Bool, true, false, cond, eqb, List, [], ◌∷◌, ◌++◌, length, get_or, take, drop, set, sym, refl, ap, ◌∙◌, arith, length-drop, length-set, get_or-drop, get_or-set_other, get_or-take, get_or-set_same, take-take, drop-drop, drop-set-lt, take-add, le-ltb, eq-eqb, eqb-true}
 use borrow.Author.Tests.{eqb-false}
-use Rattle.wire.specs.Le.{le_of, le_at, le_bytes}
+use Rattle.wire.specs.Le.{le_of, le_at}
 use Rattle.wire.specs.LeLaws.{le_part}
 use Rattle.wire.specs.Room.{patch}
 use Rattle.wire.specs.RoomLaws.{patch_same, cut_later}
@@ -17,7 +17,7 @@ use Rattle.codec.specs.Connection.{read_packet, read_plain}
 use Rattle.mishkeldur.specs.Face.{flag_no}
 use Rattle.mishkeldur.specs.State.{mark, codec_of, state_bytes, keeping, Reads}
 use Rattle.mishkeldur.specs.StateLaws.{length_state}
-use Rattle.mishkeldur.specs.Whole.{Idle, Chunk, Whole, WholeFrame}
+use Rattle.mishkeldur.specs.Whole.{Idle, Whole, WholeFrame}
 
 -- a test that has failed tells nothing
 pub untold : {P : Type 0} → false ≡ true → P

@@ -4,12 +4,11 @@ use Rattle.wire.specs.Le.{le_at, le_bytes}
 use Rattle.wire.specs.Room.{patch}
 use Rattle.chunk.specs.Chunks.{largest}
 use Rattle.chunk.specs.Read.{Answered, need_more, packet, refused}
-use Rattle.refusal.specs.Said.{Said}
-use Rattle.frame.specs.Codec.{unread_of, renumbered}
+use Rattle.frame.specs.Codec.{unread_of}
 use Rattle.frame.specs.Read.{Done}
 use Rattle.frame.specs.Write.{Sent}
 use Rattle.frame.specs.declared.PacketCodec.{PacketCodec}
-use Rattle.codec.specs.Connection.{Opening, opens, refuses, opening, frames_on, synced, read_packet, staging_stays, write_packet}
+use Rattle.codec.specs.Connection.{Opening, opens, refuses, opening, read_packet, staging_stays, write_packet}
 use Rattle.mishkeldur.specs.Face.{status, holds, flag_no}
 
 -- "a lent byte slice of 128 bytes"

@@ -11,7 +11,6 @@ use Rattle.value.specs.declared.Value.TheVariants as Of
 use Rattle.row.specs.declared.Side.{Side}
 use Rattle.row.specs.declared.Side.TheVariants.{ServerSide, ClientSide}
 use Rattle.session.specs.Record.{Found, end, pair}
-use Rattle.session.specs.declared.Text.{Text}
 use Rattle.session.specs.declared.SystemVariable.{SystemVariable}
 use Rattle.session.specs.declared.SessionStateChange.{SessionStateChange}
 use Rattle.session.specs.declared.SessionStateChange.TheVariants as Change

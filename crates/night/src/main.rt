@@ -236,7 +236,13 @@ fn turn(room: &mut [u8], staging: &mut [u8], dst: &mut [u8], input: &File, line:
 }
 
 // The next packet of the answer, or what stands in its way: no frame of this limit needs more than two pieces.
-fn next_packet(room: &mut [u8], staging: &mut [u8], dst: &mut [u8], input: &File, line: Line) -> Line {
+fn next_packet(
+    room: &mut [u8],
+    staging: &mut [u8],
+    dst: &mut [u8],
+    input: &File,
+    line: Line,
+) -> Line {
     let mut n = line;
     let mut turns: usize = 0;
     while turns < 4 {
@@ -829,7 +835,8 @@ fn load(
             return n;
         }
         n = exchange(
-            offsets, places, starts, types, signs, room, staging, dst, out, input, client, index, k, n,
+            offsets, places, starts, types, signs, room, staging, dst, out, input, client, index,
+            k, n,
         );
         k += 1;
     }

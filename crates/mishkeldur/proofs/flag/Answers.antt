@@ -1,4 +1,4 @@
-use Rattle.std.proofs.Common.{rules, eq-eqb, ne_eqb}
+use Rattle.std.proofs.Common.{eq-eqb, ne_eqb}
 use Rattle.mishkeldur.proofs.flag.Goals as goal
 
 pub returns-then-n-eq0 : goal.returns-then-n-eq0

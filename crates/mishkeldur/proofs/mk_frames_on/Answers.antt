@@ -1,5 +1,4 @@
 use Rattle.mishkeldur.proofs.EntryLaws.{changes_short, changes_done}
-use Rattle.std.proofs.Common.{rules}
 use Rattle.mishkeldur.proofs.mk_frames_on.Goals as goal
 
 pub returns-then-state-lt-STATE_SIZE : goal.returns-then-state-lt-STATE_SIZE

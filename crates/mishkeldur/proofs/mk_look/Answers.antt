@@ -1,6 +1,5 @@
 use Rattle.mishkeldur.proofs.EntryLaws.{looks_short, looks_done}
 use Rattle.mishkeldur.proofs.FaceLaws.{flag_no_lem}
-use Rattle.std.proofs.Common.{rules}
 use Rattle.mishkeldur.proofs.mk_look.Goals as goal
 
 pub returns-then-state-lt-STATE_SIZE : goal.returns-then-state-lt-STATE_SIZE

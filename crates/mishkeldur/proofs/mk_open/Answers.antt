@@ -1,4 +1,4 @@
-use Rattle.std.proofs.Common.{refl, rules}
+use Rattle.std.proofs.Common.{refl}
 use Rattle.mishkeldur.proofs.EntryLaws.{opens_short, opens_done}
 use Rattle.mishkeldur.proofs.mk_open.Goals as goal
 

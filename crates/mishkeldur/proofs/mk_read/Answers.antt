@@ -1,4 +1,4 @@
-use Rattle.std.proofs.Common.{◌≡◌, ◌+◌, ◌-◌, ◌%◌, length, get_or, take, drop, arith, length-drop, length-set, length-take-le, get_or-set_other, rules}
+use Rattle.std.proofs.Common.{◌≡◌, ◌+◌, ◌-◌, ◌%◌, length, get_or, take, drop, arith, length-drop, length-set, length-take-le, get_or-set_other}
 use Rattle.mishkeldur.proofs.EntryLaws.{reads_short}
 use Rattle.mishkeldur.proofs.WholeLaws.{reads_whole, reads_whole-frame}
 use Rattle.mishkeldur.proofs.mk_read.Goals as goal
@@ -21,10 +21,10 @@ copy-requires c =
 pub overflow_sub-len : goal.overflow_sub-len
 overflow_sub-len c =
     omega (
-  arith,
-  (c.whole-n.ensures
-      c.if-n-ne0.true).least,
-)
+      arith,
+      (c.whole-n.ensures
+          c.if-n-ne0.true).least,
+    )
 
 pub returns-then-n-ne0 : goal.returns-then-n-ne0
 returns-then-n-ne0 c =
@@ -61,10 +61,10 @@ bounds-state-4-then-n-ne0-2 c =
 pub overflow_sub-len-then-n-ne0-2 : goal.overflow_sub-len-then-n-ne0-2
 overflow_sub-len-then-n-ne0-2 c =
     omega (
-  arith,
-  (c.whole_frame-n.ensures
-      c.if-n-ne0-2.true).least,
-)
+      arith,
+      (c.whole_frame-n.ensures
+          c.if-n-ne0-2.true).least,
+    )
 
 pub returns-then-n-ne0-2 : goal.returns-then-n-ne0-2
 returns-then-n-ne0-2 c =

@@ -1,5 +1,4 @@
 use Rattle.mishkeldur.proofs.EntryLaws.{writes_short, writes_done, writes_refused}
-use Rattle.std.proofs.Common.{rules}
 use Rattle.mishkeldur.proofs.mk_write.Goals as goal
 
 pub returns-then-state-lt-STATE_SIZE : goal.returns-then-state-lt-STATE_SIZE

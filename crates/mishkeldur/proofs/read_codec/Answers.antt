@@ -1,4 +1,4 @@
-use Rattle.std.proofs.Common.{refl, rules}
+use Rattle.std.proofs.Common.{refl}
 use Rattle.mishkeldur.proofs.EntryLaws.{reads_closed, reads_done}
 use Rattle.mishkeldur.proofs.read_codec.Goals as goal
 

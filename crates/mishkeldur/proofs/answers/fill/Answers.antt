@@ -1,4 +1,4 @@
-use Rattle.std.proofs.Common.{[], ◌∷◌, arith, length-set, rules}
+use Rattle.std.proofs.Common.{[], ◌∷◌, arith, length-set}
 use lib.Seq.{sets-eq}
 use Rattle.mishkeldur.proofs.answers.fill.Goals as goal
 

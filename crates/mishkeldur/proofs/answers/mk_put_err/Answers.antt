@@ -1,5 +1,4 @@
 use Rattle.mishkeldur.proofs.AnswerLaws.{puts_err}
-use Rattle.std.proofs.Common.{rules}
 use Rattle.mishkeldur.proofs.answers.mk_put_err.Goals as goal
 
 pub returns : goal.returns

@@ -1,7 +1,6 @@
 use Rattle.answer.specs.Written.{ok_bytes}
 use Rattle.mishkeldur.specs.Face.{flag}
 use Rattle.mishkeldur.proofs.FaceLaws.{puts}
-use Rattle.std.proofs.Common.{rules}
 use Rattle.mishkeldur.proofs.answers.mk_put_ok.Goals as goal
 
 pub returns : goal.returns

@@ -1,7 +1,6 @@
 use Rattle.mishkeldur.proofs.AnswerLaws.{list_short, list_filled, list_refused}
 use Rattle.mishkeldur.specs.Face.{flag}
 use Rattle.answer.specs.Answer.{answer_at}
-use Rattle.std.proofs.Common.{rules}
 use Rattle.mishkeldur.proofs.answers.mk_read_answer.Goals as goal
 
 pub returns-then-out-lt-NUMBERS : goal.returns-then-out-lt-NUMBERS

@@ -1,4 +1,3 @@
-use Rattle.std.proofs.Common.{rules}
 use Rattle.mishkeldur.proofs.answers.put_numbers.Goals as goal
 
 pub returns-in-Ok : goal.returns-in-Ok

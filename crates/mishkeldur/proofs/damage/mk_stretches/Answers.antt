@@ -1,4 +1,4 @@
-use Rattle.std.proofs.Common.{refl, rules}
+use Rattle.std.proofs.Common.{refl}
 use Rattle.mishkeldur.proofs.damage.mk_stretches.Goals as goal
 
 pub returns-in-Stretches : goal.returns-in-Stretches

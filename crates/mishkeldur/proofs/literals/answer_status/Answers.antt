@@ -1,5 +1,5 @@
 use Rattle.mishkeldur.proofs.LiteralLaws.{judged_means, judged_bad, judged_other}
-use Rattle.std.proofs.Common.{sym, ◌∙◌, rules}
+use Rattle.std.proofs.Common.{sym, ◌∙◌}
 use Rattle.mishkeldur.proofs.literals.answer_status.Goals as goal
 
 pub returns-then-number-number_of : goal.returns-then-number-number_of

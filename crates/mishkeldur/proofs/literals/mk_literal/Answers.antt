@@ -1,4 +1,3 @@
-use Rattle.std.proofs.Common.{rules}
 use Rattle.mishkeldur.proofs.literals.mk_literal.Goals as goal
 
 pub returns : goal.returns

@@ -1,4 +1,4 @@
-use Rattle.std.proofs.Common.{refl, rules}
+use Rattle.std.proofs.Common.{refl}
 use Rattle.mishkeldur.proofs.packing.mk_judge.Goals as goal
 
 pub returns-in-Accepted : goal.returns-in-Accepted

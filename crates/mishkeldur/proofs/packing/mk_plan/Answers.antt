@@ -1,4 +1,4 @@
-use Rattle.std.proofs.Common.{refl, rules}
+use Rattle.std.proofs.Common.{refl}
 use Rattle.mishkeldur.proofs.packing.mk_plan.Goals as goal
 
 pub returns-in-Groups : goal.returns-in-Groups

@@ -1,4 +1,4 @@
-use Rattle.std.proofs.Common.{refl, rules, ne_eqb}
+use Rattle.std.proofs.Common.{refl, ne_eqb}
 use Rattle.mishkeldur.specs.Values.{change_of}
 use Rattle.mishkeldur.proofs.records.change_of.Goals as goal
 

@@ -1,5 +1,4 @@
 use Rattle.mishkeldur.proofs.FaceLaws.{puts}
-use Rattle.std.proofs.Common.{rules}
 use Rattle.mishkeldur.proofs.records.mk_escaped.Goals as goal
 
 pub returns : goal.returns

@@ -1,4 +1,4 @@
-use Rattle.std.proofs.Common.{refl, rules}
+use Rattle.std.proofs.Common.{refl}
 use Rattle.mishkeldur.proofs.records.mk_next_variable.Goals as goal
 
 pub returns-in-End : goal.returns-in-End

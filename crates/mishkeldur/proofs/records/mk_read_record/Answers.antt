@@ -1,4 +1,4 @@
-use Rattle.std.proofs.Common.{refl, rules}
+use Rattle.std.proofs.Common.{refl}
 use Rattle.mishkeldur.proofs.FaceLaws.{flag_no_lem}
 use Rattle.mishkeldur.proofs.records.mk_read_record.Goals as goal
 

@@ -1,4 +1,4 @@
-use Rattle.std.proofs.Common.{sym, ◌∙◌, arith, rules, eqb-true}
+use Rattle.std.proofs.Common.{sym, ◌∙◌, eqb-true}
 use Rattle.mishkeldur.proofs.WholeLaws.{untold}
 use Rattle.mishkeldur.proofs.state.idle.Goals as goal
 

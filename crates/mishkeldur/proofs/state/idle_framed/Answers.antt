@@ -1,5 +1,4 @@
-use Rattle.std.proofs.Common.{sym, ◌∙◌, rules, eqb-true}
-use borrow.Author.Tests.{not-false}
+use Rattle.std.proofs.Common.{sym, ◌∙◌, eqb-true}
 use Rattle.mishkeldur.proofs.WholeLaws.{untold}
 use Rattle.mishkeldur.proofs.state.idle_framed.Goals as goal
 

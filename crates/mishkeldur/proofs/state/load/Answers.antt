@@ -1,5 +1,4 @@
 use Rattle.mishkeldur.proofs.StoreLaws.{loaded}
-use Rattle.std.proofs.Common.{rules}
 use Rattle.mishkeldur.proofs.state.load.Goals as goal
 
 pub returns : goal.returns

@@ -1,5 +1,5 @@
 use borrow.Author.Tests.{eqb-false, not-true}
-use Rattle.std.proofs.Common.{sym, ◌∙◌, arith, rules}
+use Rattle.std.proofs.Common.{sym, ◌∙◌, arith}
 use Rattle.mishkeldur.proofs.WholeLaws.{untold}
 use Rattle.mishkeldur.proofs.state.one_chunk.Goals as goal
 

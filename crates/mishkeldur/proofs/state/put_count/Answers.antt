@@ -1,5 +1,5 @@
 use Rattle.mishkeldur.proofs.StoreLaws.{stands}
-use Rattle.std.proofs.Common.{sym, ◌∙◌, arith, rules}
+use Rattle.std.proofs.Common.{sym, ◌∙◌, arith}
 use Rattle.mishkeldur.proofs.state.put_count.Goals as goal
 
 pub returns-else-eight-v : goal.returns-else-eight-v

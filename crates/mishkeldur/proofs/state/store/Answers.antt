@@ -1,4 +1,4 @@
-use Rattle.std.proofs.Common.{◌∙◌, arith, length-set, rules}
+use Rattle.std.proofs.Common.{◌∙◌, arith, length-set}
 use Rattle.mishkeldur.proofs.StoreLaws.{stored}
 use Rattle.mishkeldur.proofs.state.store.Goals as goal
 

@@ -1,4 +1,4 @@
-use Rattle.std.proofs.Common.{sym, ◌∙◌, arith, rules, leb-true}
+use Rattle.std.proofs.Common.{sym, ◌∙◌, arith, leb-true}
 use Rattle.mishkeldur.proofs.WholeLaws.{untold}
 use Rattle.mishkeldur.proofs.state.stored_frame.Goals as goal
 

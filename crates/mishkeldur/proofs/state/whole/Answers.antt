@@ -1,5 +1,4 @@
-use borrow.Author.Tests.{not-false}
-use Rattle.std.proofs.Common.{◌≡◌, ◌+◌, ◌-◌, arith, rules}
+use Rattle.std.proofs.Common.{◌≡◌, ◌+◌, ◌-◌, arith}
 use Rattle.mishkeldur.proofs.state.whole.Goals as goal
 
 pub returns-then-one_chunk : goal.returns-then-one_chunk

@@ -1,5 +1,4 @@
-use borrow.Author.Tests.{not-false}
-use Rattle.std.proofs.Common.{◌≡◌, ◌+◌, ◌-◌, sym, ◌∙◌, arith, rules}
+use Rattle.std.proofs.Common.{◌≡◌, ◌+◌, ◌-◌, sym, ◌∙◌, arith}
 use Rattle.mishkeldur.proofs.state.whole_frame.Goals as goal
 
 pub returns-then-one_chunk : goal.returns-then-one_chunk

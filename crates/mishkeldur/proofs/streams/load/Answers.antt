@@ -1,5 +1,4 @@
 use Rattle.mishkeldur.proofs.PassLaws.{stream_loaded}
-use Rattle.std.proofs.Common.{rules}
 use Rattle.mishkeldur.proofs.streams.load.Goals as goal
 
 pub returns : goal.returns

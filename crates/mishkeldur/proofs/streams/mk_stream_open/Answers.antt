@@ -1,4 +1,4 @@
-use Rattle.std.proofs.Common.{refl, rules}
+use Rattle.std.proofs.Common.{refl}
 use Rattle.mishkeldur.proofs.PassLaws.{opens_small, opens_stream}
 use Rattle.mishkeldur.proofs.streams.mk_stream_open.Goals as goal
 

@@ -1,4 +1,4 @@
-use Rattle.std.proofs.Common.{refl, rules}
+use Rattle.std.proofs.Common.{refl}
 use Rattle.mishkeldur.proofs.FaceLaws.{flag_no_lem}
 use Rattle.mishkeldur.proofs.PassLaws.{passes_small, passes_closed, passes_done}
 use Rattle.mishkeldur.proofs.streams.mk_stream_read.Goals as goal

@@ -1,5 +1,4 @@
 use Rattle.mishkeldur.proofs.PassLaws.{renumbers_small, renumbers_done}
-use Rattle.std.proofs.Common.{rules}
 use Rattle.mishkeldur.proofs.streams.mk_stream_seq_id.Goals as goal
 
 pub returns-then-state-lt-STREAM_SIZE : goal.returns-then-state-lt-STREAM_SIZE

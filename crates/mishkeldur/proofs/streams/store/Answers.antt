@@ -1,4 +1,4 @@
-use Rattle.std.proofs.Common.{◌∙◌, arith, length-set, rules}
+use Rattle.std.proofs.Common.{◌∙◌, arith, length-set}
 use Rattle.mishkeldur.proofs.PassLaws.{stream_stored}
 use Rattle.mishkeldur.proofs.streams.store.Goals as goal
 

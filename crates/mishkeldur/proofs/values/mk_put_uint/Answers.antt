@@ -1,5 +1,4 @@
 use Rattle.mishkeldur.proofs.FaceLaws.{puts}
-use Rattle.std.proofs.Common.{rules}
 use Rattle.mishkeldur.proofs.values.mk_put_uint.Goals as goal
 
 pub returns : goal.returns

@@ -1,6 +1,4 @@
-use Rattle.std.proofs.Common.{ℕ, List, [], ◌∷◌, sym, refl, ◌∙◌, rules}
-use types.Run.{miss}
-use Prim.{tt}
+use Rattle.std.proofs.Common.{sym, refl, ◌∙◌}
 use Rattle.mishkeldur.proofs.FaceLaws.{date_given, date_refused, date_same}
 use Rattle.mishkeldur.proofs.values.mk_read_date.Goals as goal
 

@@ -1,4 +1,4 @@
-use Rattle.std.proofs.Common.{refl, rules}
+use Rattle.std.proofs.Common.{refl}
 use Rattle.mishkeldur.proofs.values.mk_read_params.Goals as goal
 
 pub returns-in-Done : goal.returns-in-Done

@@ -1,6 +1,4 @@
-use Rattle.std.proofs.Common.{ℕ, List, [], ◌∷◌, refl, rules}
-use types.Run.{miss}
-use Prim.{tt}
+use Rattle.std.proofs.Common.{refl}
 use Rattle.mishkeldur.proofs.FaceLaws.{text-given}
 use Rattle.mishkeldur.proofs.values.mk_read_text.Goals as goal
 

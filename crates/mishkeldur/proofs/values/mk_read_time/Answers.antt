@@ -1,5 +1,5 @@
 use Rattle.mishkeldur.proofs.FaceLaws.{flag_no_lem}
-use Rattle.std.proofs.Common.{refl, rules}
+use Rattle.std.proofs.Common.{refl}
 use Rattle.mishkeldur.proofs.values.mk_read_time.Goals as goal
 
 pub returns-in-Done : goal.returns-in-Done

@@ -1,4 +1,4 @@
-use Rattle.std.proofs.Common.{refl, rules}
+use Rattle.std.proofs.Common.{refl}
 use Rattle.mishkeldur.proofs.values.side_of.Goals as goal
 
 pub returns-then-flag : goal.returns-then-flag
