@@ -7,7 +7,7 @@ An edit is crates/ROOM/must-fail/NAME.edit: a wrong program that keeps the code'
 because the proof no longer fits the code's shape shows nothing, and fails here.
 
 Each edit is tried by `rt check` in a copy of the repository, over what earlier checks of the room kept, so that only what the edit reaches is checked
-again. Last line: 'N refused'; exit status 1 if an edit was not.
+again. An edit of one function counts as refused if a fact of its own proof is. Last line: 'N refused'; exit status 1 if an edit was not.
 """
 import argparse, collections, concurrent.futures, os, pathlib, queue, re, shutil, subprocess, sys, tempfile, time
 
@@ -17,7 +17,7 @@ Word = collections.namedtuple('Word', 'said place why seconds')
 REFUSED, SURVIVED, SHAPE, BAD = 'refused', 'NOT REFUSED', 'REFUSED AT THE SHAPE', 'BAD EDIT'
 # What a check says of a proof that no longer fits the code, and of a text that is no program.
 AT_SHAPE = re.compile(r'that can be named|has no field|is not in scope|can be named here|no goal of that name')
-NO_PROGRAM = re.compile(r'^src/\S+: error', re.M)
+NO_PROGRAM = re.compile(r'^src/\S+: error\[', re.M)
 
 
 def rooms():
@@ -37,6 +37,19 @@ def parsed(path):
         elif line.startswith('new:'):
             pairs.append((file, old, line[4:].removeprefix(' ')))
     return pairs
+
+
+def proof_of(a_try):
+    """Where the proof of the one function stands that an edit changes, as proofs/inner/has; None if it changes another thing or more."""
+    places = set()
+    for file, old, _ in a_try.pairs:
+        text = (ROOT / 'crates' / a_try.room / file).read_text() if file.startswith('src/') else ''
+        # The line that changes is the last one: those above it are there to tell it from others.
+        line = text.find(old) + old.rstrip('\n').rfind('\n') + 1
+        functions = re.findall(r'^(?:pub )?(?:pub\(crate\) )?(?:extern "C" )?fn (\w+)', text[:line], re.M)
+        module = file.removeprefix('src/').removesuffix('.rt')
+        places.add('/'.join(['proofs'] + ([] if module == 'lib' else [module]) + functions[-1:]) if functions else None)
+    return places.pop() if len(places) == 1 else None
 
 
 class Bench:
@@ -67,13 +80,15 @@ class Bench:
                 (crate / file).write_text(text)
         seconds = time.time() - began
         said = run.stdout
-        if re.search(r'^logic=proved', said, re.M):
+        # Rooms below that are checked on the way have such a line too: the room's own is the last.
+        if run.returncode == 0 and re.findall(r'^logic=(\S+)', said, re.M)[-1:] == ['proved']:
             return Word(SURVIVED, '', '', seconds)
         if NO_PROGRAM.search(said):
             return Word(BAD, '', NO_PROGRAM.search(said).group(), seconds)
         errors = [e for e in re.findall(r'^\./(\S+): error: (.*)$', said, re.M) if 'rejected' not in e[1] and 'not admitted' not in e[1]]
-        facts = [e for e in errors if not AT_SHAPE.search(e[1])]
-        unproved = re.search(r'^fn \S+: no proof: .*did not prove .*$', said, re.M)
+        own = proof_of(a_try)
+        facts = [e for e in errors if not AT_SHAPE.search(e[1]) and (own is None or e[0].startswith(own + '/'))]
+        unproved = re.search(rf'^fn \S*\b{own.split("/")[-1] if own else ""}\S*: no proof: .*did not prove .*$', said, re.M)
         if facts:
             return Word(REFUSED, *facts[0], seconds)
         if unproved:
