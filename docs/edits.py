@@ -52,6 +52,17 @@ def proof_of(a_try):
     return places.pop() if len(places) == 1 else None
 
 
+def lines_of(a_try):
+    """The first and the last line of the function that an edit's first pair changes."""
+    if not a_try.pairs or not a_try.pairs[0][0].startswith('src/'):
+        return 0, 0
+    file, old, _ = a_try.pairs[0]
+    text = (ROOT / 'crates' / a_try.room / file).read_text()
+    starts = [m.start() for m in re.finditer(r'^(?:pub )?(?:pub\(crate\) )?(?:extern "C" )?fn ', text[:text.find(old) + len(old)], re.M)]
+    first = starts[-1] if starts else 0
+    return text[:first].count('\n') + 1, text[:text.find('\n}', first) + 2].count('\n') + 1
+
+
 class Bench:
     """A copy of the repository in which one room at a time is edited and checked."""
 
@@ -88,11 +99,13 @@ class Bench:
         errors = [e for e in re.findall(r'^\./(\S+): error: (.*)$', said, re.M) if 'rejected' not in e[1] and 'not admitted' not in e[1]]
         own = proof_of(a_try)
         facts = [e for e in errors if not AT_SHAPE.search(e[1]) and (own is None or e[0].startswith(own + '/'))]
-        unproved = re.search(rf'^fn \S*\b{own.split("/")[-1] if own else ""}\S*: no proof: .*did not prove .*$', said, re.M)
+        # A goal that no file answers is named by a note at its place in the source.
+        first, last = lines_of(a_try)
+        unproved = [n for n in re.findall(r'^note: src/\S+?:(\d+):\d+: (it is not proved that .*)$', said, re.M) if own is None or first <= int(n[0]) <= last]
         if facts:
             return Word(REFUSED, *facts[0], seconds)
         if unproved:
-            return Word(REFUSED, unproved.group().split(':')[0], unproved.group(), seconds)
+            return Word(REFUSED, f'{own or "line"}:{unproved[0][0]}', unproved[0][1], seconds)
         return Word(SHAPE, *(errors[0] if errors else ('', said[-400:])), seconds)
 
 
