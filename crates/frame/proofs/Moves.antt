@@ -1,5 +1,7 @@
 -- Bytes moved inside a list.
-use Rattle.std.proofs.Common.{◌≡◌, ℕ, zero, suc, ◌+◌, ◌-◌, ◌<◌, ◌≤◌, List, [], ◌∷◌, ◌++◌, length, get_or, take, drop, set, sym, ap, ◌∙◌, arith, length-append, length-drop, take-append-drop, length-take, get_or-drop, take_all, get_or-take, drop-drop, take_at, get_or-append-add, take-add}
+use Rattle.std.proofs.Common.{◌≡◌, ℕ, zero, suc, ◌+◌, ◌-◌, ◌<◌, ◌≤◌, List, [], ◌∷◌, ◌++◌, length, get_or, take, drop, set, sym, ap, ◌∙◌}
+use Rattle.std.proofs.Common.{arith, length-append, length-drop, take-append-drop, length-take, get_or-drop, take_all, get_or-take, drop-drop}
+use Rattle.std.proofs.Common.{take_at, get_or-append-add, take-add}
 use native.Mathlib.Nat.{sub-zero}
 use lib.Seq.{drop-append-add, paste, length_paste_head, paste-suc}
 use Rattle.wire.specs.Room.{patch}

@@ -1,5 +1,6 @@
 -- The reader's steps, over plain lists and numbers.
-use Rattle.std.proofs.Common.{◌≡◌, ℕ, ◌+◌, ◌-◌, ◌≤◌, Bool, true, false, List, [], ◌++◌, length, take, drop, sym, refl, ap, ◌∙◌, add_assoc, zero-add, arith, length-drop, length-take, length-take-le, take_all, drop-drop, take_at}
+use Rattle.std.proofs.Common.{◌≡◌, ℕ, ◌+◌, ◌-◌, ◌≤◌, Bool, true, false, List, [], ◌++◌, length, take, drop, sym, refl, ap, ◌∙◌, add_assoc}
+use Rattle.std.proofs.Common.{zero-add, arith, length-drop, length-take, length-take-le, take_all, drop-drop, take_at}
 use Rattle.wire.specs.Room.{patch}
 use Rattle.chunk.specs.Chunks.{largest}
 use Rattle.chunk.specs.Read as P

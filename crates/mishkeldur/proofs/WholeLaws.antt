@@ -1,5 +1,7 @@
 -- The common case of reading is the reader's: by the bytes of the state alone, of which it changes one.
-use Rattle.std.proofs.Common.{◌≡◌, ℕ, zero, suc, ◌+◌, ◌-◌, ◌%◌, ◌<◌, ◌≤◌, Bool, true, false, cond, eqb, List, [], ◌∷◌, ◌++◌, length, get_or, take, drop, set, sym, refl, ap, ◌∙◌, arith, length-drop, length-set, get_or-drop, get_or-set_other, get_or-take, get_or-set_same, take-take, drop-drop, drop-set-lt, take-add, le-ltb, eq-eqb, eqb-true}
+use Rattle.std.proofs.Common.{◌≡◌, ℕ, zero, suc, ◌+◌, ◌-◌, ◌%◌, ◌<◌, ◌≤◌, Bool, true, false, cond, eqb, List, [], ◌∷◌, ◌++◌, length, get_or}
+use Rattle.std.proofs.Common.{take, drop, set, sym, refl, ap, ◌∙◌, arith, length-drop, length-set, get_or-drop, get_or-set_other, get_or-take}
+use Rattle.std.proofs.Common.{get_or-set_same, take-take, drop-drop, drop-set-lt, take-add, le-ltb, eq-eqb, eqb-true}
 use borrow.Author.Tests.{eqb-false}
 use Rattle.wire.specs.Le.{le_of, le_at}
 use Rattle.wire.specs.LeLaws.{le_part}

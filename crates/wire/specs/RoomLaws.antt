@@ -1,6 +1,8 @@
 -- Laws of a buffer with some bytes put at a place.
 use Rattle.std.specs.Prelude.{◌≡◌, refl, List, [], ◌∷◌, ◌++◌, ℕ, suc, ◌+◌, ◌-◌, ◌≤◌, ◌<◌, length, take, drop, set, Bool, true, false, leb}
-use Rattle.std.proofs.Common.{sym, ap, ◌∙◌, append_assoc, add-one, add_assoc, add-zero, arith, length-set, length-append, length-take, length-drop, take-append-drop, take-add, take-take, take_at, drop_at, drop-drop, length-take-le, le-leb, leb-true, leb-false}
+use Rattle.std.proofs.Common.{sym, ap, ◌∙◌, append_assoc, add-one, add_assoc, add-zero, arith, length-set, length-append, length-take}
+use Rattle.std.proofs.Common.{length-drop, take-append-drop, take-add, take-take, take_at, drop_at, drop-drop, length-take-le, le-leb}
+use Rattle.std.proofs.Common.{leb-true, leb-false}
 use Rattle.std.proofs.Math.Seq.{paste, take-length, drop-append-add, append_snoc}
 use Rattle.std.proofs.lemmas.List.{take-append-le, drop-append-le, set_split}
 use Rattle.std.proofs.lemmas.List.Edits.{sets-eq}

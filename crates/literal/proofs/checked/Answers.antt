@@ -15,21 +15,25 @@ pub returns-then-dst-n : goal.returns-then-dst-n
 returns-then-dst-n c =
     let t = c in
     let a = t.args in
-    meant_full (checked a.no_backslash_escape a.input.now) a.dst.now (fine-told t.checked_len.result t.in-Means.n (checked a.no_backslash_escape a.input.now) t.in-Means.is t.checked_len.ensures) c.if-dst-n.true
+    let v = checked a.no_backslash_escape a.input.now in
+    meant_full v a.dst.now (fine-told t.checked_len.result t.in-Means.n v t.in-Means.is t.checked_len.ensures) c.if-dst-n.true
 
 pub put_meaning-requires : goal.put_meaning-requires
 put_meaning-requires c =
     let t = c in
     let a = t.args in
     let v = checked a.no_backslash_escape a.input.now in
-    (counted_sound v (fine-told t.checked_len.result t.in-Means.n (checked a.no_backslash_escape a.input.now) t.in-Means.is t.checked_len.ensures), omega (arith, counted-length v (fine-told t.checked_len.result t.in-Means.n (checked a.no_backslash_escape a.input.now) t.in-Means.is t.checked_len.ensures), c.if-dst-n.false))
+    let told = fine-told t.checked_len.result t.in-Means.n v t.in-Means.is t.checked_len.ensures in
+    (counted_sound v told, omega (arith, counted-length v told, c.if-dst-n.false))
 
 pub returns-else-dst-n : goal.returns-else-dst-n
 returns-else-dst-n c =
     let t = c in
     let a = t.args in
     let put = c.put_meaning in
-    meant_fits (checked a.no_backslash_escape a.input.now) a.dst.now put.new.dst t.in-Means.n (fine-told t.checked_len.result t.in-Means.n (checked a.no_backslash_escape a.input.now) t.in-Means.is t.checked_len.ensures) (omega arith) put.ensures
+    let v = checked a.no_backslash_escape a.input.now in
+    let told = fine-told t.checked_len.result t.in-Means.n v t.in-Means.is t.checked_len.ensures in
+    meant_fits v a.dst.now put.new.dst t.in-Means.n told (omega arith) put.ensures
 
 pub returns-in-Refused : goal.returns-in-Refused
 returns-in-Refused c =

@@ -1,7 +1,6 @@
 use native.Mathlib.Omega.{arith}
 use borrow.Author.Tests.{le-leb, lt-leb, ne_eqb}
-use Prim.Native.Nat.{◌<◌, ◌≤◌}
-use mathlib.Core.Path.{◌≡◌}
+use Prim.Native.Nat.{◌≤◌}
 use Rattle.value.specs.Kinds.{kind_of}
 use Rattle.value.proofs.kind_of.Goals as goal
 
@@ -81,26 +80,27 @@ pub returns-in_default : goal.returns-in_default
 unfolding kind_of
 returns-in_default c =
     let t = c.args.t in
-    let below : t < 245 = omega arith in
-    let n0 : t ≡ 0 → ⊥ = omega arith in
-    let n15 : t ≡ 15 → ⊥ = omega arith in
-    let n16 : t ≡ 16 → ⊥ = omega arith in
-    let n242 : t ≡ 242 → ⊥ = omega arith in
-    let n1 : t ≡ 1 → ⊥ = omega arith in
-    let n2 : t ≡ 2 → ⊥ = omega arith in
-    let n13 : t ≡ 13 → ⊥ = omega arith in
-    let n3 : t ≡ 3 → ⊥ = omega arith in
-    let n9 : t ≡ 9 → ⊥ = omega arith in
-    let n8 : t ≡ 8 → ⊥ = omega arith in
-    let n4 : t ≡ 4 → ⊥ = omega arith in
-    let n5 : t ≡ 5 → ⊥ = omega arith in
-    let n6 : t ≡ 6 → ⊥ = omega arith in
-    let n7 : t ≡ 7 → ⊥ = omega arith in
-    let n10 : t ≡ 10 → ⊥ = omega arith in
-    let n12 : t ≡ 12 → ⊥ = omega arith in
-    let n14 : t ≡ 14 → ⊥ = omega arith in
-    let n11 : t ≡ 11 → ⊥ = omega arith in
-    simp (lt-leb 245 t below, ne_eqb t 0 n0, ne_eqb t 15 n15, ne_eqb t 16 n16, ne_eqb t 242 n242, ne_eqb t 1 n1, ne_eqb t 2 n2, ne_eqb t 13 n13, ne_eqb t 3 n3, ne_eqb t 9 n9, ne_eqb t 8 n8, ne_eqb t 4 n4, ne_eqb t 5 n5, ne_eqb t 6 n6, ne_eqb t 7 n7, ne_eqb t 10 n10, ne_eqb t 12 n12, ne_eqb t 14 n14, ne_eqb t 11 n11)
+    simp (
+      lt-leb 245 t (omega arith),
+      ne_eqb t 0 (omega arith),
+      ne_eqb t 15 (omega arith),
+      ne_eqb t 16 (omega arith),
+      ne_eqb t 242 (omega arith),
+      ne_eqb t 1 (omega arith),
+      ne_eqb t 2 (omega arith),
+      ne_eqb t 13 (omega arith),
+      ne_eqb t 3 (omega arith),
+      ne_eqb t 9 (omega arith),
+      ne_eqb t 8 (omega arith),
+      ne_eqb t 4 (omega arith),
+      ne_eqb t 5 (omega arith),
+      ne_eqb t 6 (omega arith),
+      ne_eqb t 7 (omega arith),
+      ne_eqb t 10 (omega arith),
+      ne_eqb t 12 (omega arith),
+      ne_eqb t 14 (omega arith),
+      ne_eqb t 11 (omega arith),
+    )
 
 pub returns-in-245-to-255 : goal.returns-in-245-to-255
 unfolding kind_of
