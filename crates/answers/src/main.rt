@@ -4,14 +4,13 @@
 // wanted, those of a connection as long as its limit asks for.
 #![tactic(auto)]
 
-ghost use Rattle.std.specs.Prelude.{◌<◌, ◌≤◌, length};
+ghost use Rattle.std.specs.Prelude.{◌<◌, ◌≤◌};
 
 use codec::{Got, Opened};
 use duration::Time;
 use frame::PacketCodec;
 use refusal::Refusal;
 use std::fs::File;
-use std::io::Read;
 use value::{Date, GotValue, ReadValue, Value};
 use wire::{Put, ReadInt, ReadNum, ReadStr, part};
 
@@ -518,25 +517,10 @@ fn run(file: &[u8]) {
     say(b"differences ", count);
 }
 
-// Reads until the buffer is full, the file ends or a read fails; answers how many bytes it put at the buffer's start.
-fn read_full(file: &File, buf: &mut [u8]) -> usize
-    ensures { result ≤ length buf.new }
-{
-    let mut reader = file;
-    let mut done = 0;
-    while done < buf.len() {
-        let n = reader.read(&mut buf[done..]).unwrap_or(0);
-        if n == 0 {
-            return done;
-        }
-        done += n;
-    }
-    done
-}
-
 fn load(rt: &HostRuntime, buffer: &mut [u8]) -> std::io::Result<()> {
-    let input = File::open(rt, "answers")?;
-    let size = read_full(&input, buffer);
+    let mut input = File::open(rt, "answers")?;
+    let (size, ended) = files::read_full(&mut input, buffer);
+    ended?;
     run(part(buffer, 0, size));
     Ok(())
 }

@@ -4,12 +4,11 @@
 // written and must be the bytes that the client sent, and each answer of the server is read to its end, by one codec.
 #![tactic(auto)]
 
-ghost use Rattle.std.specs.Prelude.{◌<◌, ◌≤◌, length};
+ghost use Rattle.std.specs.Prelude.{◌<◌, ◌≤◌};
 
 use chunk::{Answer, Decoded, Encoded, Opened, PlainPacketCodec, Tolerance};
 use refusal::number_of;
 use std::fs::File;
-use std::io::Read;
 use wire::{Put, ReadNum, part};
 
 const STDOUT_FILENO: i32 = 1;
@@ -486,26 +485,11 @@ fn replay_capture(name: &[u8], file: &[u8]) {
     }
 }
 
-// Reads until the buffer is full, the file ends or a read fails; answers how many bytes it put at the buffer's start.
-fn read_full(file: &File, buf: &mut [u8]) -> usize
-    ensures { result ≤ length buf.new }
-{
-    let mut reader = file;
-    let mut done = 0;
-    while done < buf.len() {
-        let n = reader.read(&mut buf[done..]).unwrap_or(0);
-        if n == 0 {
-            return done;
-        }
-        done += n;
-    }
-    done
-}
-
 fn run_capture(rt: &HostRuntime, name: &str) -> std::io::Result<()> {
-    let input = File::open(rt, name)?;
+    let mut input = File::open(rt, name)?;
     let mut buffer = io::large_buffer();
-    let size = read_full(&input, &mut buffer);
+    let (size, ended) = files::read_full(&mut input, &mut buffer);
+    ended?;
     replay_capture(name.as_bytes(), part(&buffer, 0, size));
     Ok(())
 }
@@ -518,8 +502,9 @@ fn try_cases(file: &[u8]) {
 }
 
 fn load_cases(rt: &HostRuntime, buffer: &mut [u8]) -> std::io::Result<()> {
-    let input = File::open(rt, "vectors")?;
-    let size = read_full(&input, buffer);
+    let mut input = File::open(rt, "vectors")?;
+    let (size, ended) = files::read_full(&mut input, buffer);
+    ended?;
     try_cases(part(buffer, 0, size));
     Ok(())
 }

@@ -3,13 +3,12 @@
 // out). Then a million frames with nothing in them, read in one call.
 #![tactic(auto)]
 
-ghost use Rattle.std.specs.Prelude.{◌<◌, ◌≤◌, length};
+ghost use Rattle.std.specs.Prelude.{◌<◌, ◌≤◌};
 
 use codec::{Got, Opened};
 use frame::PacketCodec;
 use refusal::number_of;
 use std::fs::File;
-use std::io::Read;
 use wire::{Put, ReadNum, part};
 
 const STDOUT_FILENO: i32 = 1;
@@ -356,25 +355,10 @@ fn run_file(file: &[u8]) {
     io::write_all(STDOUT_FILENO, b" differ\n");
 }
 
-// Reads until the buffer is full, the file ends or a read fails; answers how many bytes it put at the buffer's start.
-fn read_full(file: &File, buf: &mut [u8]) -> usize
-    ensures { result ≤ length buf.new }
-{
-    let mut reader = file;
-    let mut done = 0;
-    while done < buf.len() {
-        let n = reader.read(&mut buf[done..]).unwrap_or(0);
-        if n == 0 {
-            return done;
-        }
-        done += n;
-    }
-    done
-}
-
 fn load(rt: &HostRuntime, buffer: &mut [u8]) -> std::io::Result<()> {
-    let input = File::open(rt, "vectors")?;
-    let size = read_full(&input, buffer);
+    let mut input = File::open(rt, "vectors")?;
+    let (size, ended) = files::read_full(&mut input, buffer);
+    ended?;
     run_file(part(buffer, 0, size));
     Ok(())
 }

@@ -7,7 +7,6 @@ ghost use Rattle.std.specs.Prelude.{length, ◌≤◌};
 
 use literal::Answer;
 use std::fs::File;
-use std::io::Read;
 
 const STDOUT_FILENO: i32 = 1;
 
@@ -283,26 +282,11 @@ fn replayed(file: &[u8], source: &mut [u8], want: &mut [u8], dst: &mut [u8]) -> 
     t
 }
 
-// Reads until the buffer is full, the file ends or a read fails; answers how many bytes it put at the buffer's start.
-fn read_full(file: &File, buf: &mut [u8]) -> usize
-    ensures { result ≤ length buf.new }
-{
-    let mut reader = file;
-    let mut done = 0;
-    while done < buf.len() {
-        let n = reader.read(&mut buf[done..]).unwrap_or(0);
-        if n == 0 {
-            return done;
-        }
-        done += n;
-    }
-    done
-}
-
 fn main(rt: HostRuntime) -> std::io::Result<()> {
-    let input = File::open(&rt, "literals.txt")?;
+    let mut input = File::open(&rt, "literals.txt")?;
     let mut buffer = io::large_buffer();
-    let size = read_full(&input, &mut buffer);
+    let (size, ended) = files::read_full(&mut input, &mut buffer);
+    ended?;
     let file = &buffer[..size];
     let mut first = [0u8; 256];
     let source: &mut [u8] = &mut first;

@@ -18,7 +18,6 @@ use frame::PacketCodec;
 use refusal::number_of;
 use row::{ReadNull, ReadRow, Side};
 use std::fs::File;
-use std::io::Read;
 use value::{ReadValue, Value};
 use wire::{Put, ReadInt, ReadNum, ReadStr, part};
 
@@ -150,28 +149,14 @@ fn settle(room: &mut [u8], at: usize, have: usize) -> usize
     n
 }
 
-// Reads until the buffer is full, the file ends or a read fails; answers how many bytes it put at the buffer's start.
-fn read_full(file: &File, buf: &mut [u8]) -> usize
-    ensures { result ≤ length buf.new }
-{
-    let mut reader = file;
-    let mut done = 0;
-    while done < buf.len() {
-        let n = reader.read(&mut buf[done..]).unwrap_or(0);
-        if n == 0 {
-            return done;
-        }
-        done += n;
-    }
-    done
-}
-
 // Receives so many bytes at the most behind those that are there.
 fn receive(room: &mut [u8], input: &File, have: usize, most: usize) -> usize
     requires { have ≤ length room.old }
 {
     let end = have + least(most, room.len() - have);
-    read_full(input, &mut room[have..end])
+    let mut reader = input;
+    let (got, _) = files::read_full(&mut reader, &mut room[have..end]);
+    got
 }
 
 fn refill(room: &mut [u8], input: &File, line: Line) -> Line {
@@ -1011,8 +996,10 @@ fn say_night(offsets: &[i64; 9216], places: &[usize; 9216], night: Night) {
 }
 
 fn read_file(rt: &HostRuntime, name: &str, buffer: &mut [u8]) -> std::io::Result<usize> {
-    let input = File::open(rt, name)?;
-    Ok(read_full(&input, buffer))
+    let mut input = File::open(rt, name)?;
+    let (size, ended) = files::read_full(&mut input, buffer);
+    ended?;
+    Ok(size)
 }
 
 // Reads the load at a limit, by the client's bytes and the index.

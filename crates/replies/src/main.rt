@@ -6,12 +6,9 @@
 // host/data/replies.py makes the files and says how an entry is laid out.
 #![tactic(auto)]
 
-ghost use Rattle.std.specs.Prelude.{◌≤◌, length};
-
 use answer::{Answered, ErrPacket, Handed, NextRecord, OkPacket, Packet, ReadAnswer};
 use session::{ReadRecord, ReadVariable, SessionStateChange, Text};
 use std::fs::File;
-use std::io::Read;
 use wire::Put;
 
 fn byte_at(s: &[u8], at: usize) -> u8 {
@@ -476,29 +473,13 @@ fn replay(s: &[u8]) {
     line(b"  differences  ", differences(s));
 }
 
-// Reads until the buffer is full, the file ends or a read fails; answers how many bytes it put at the buffer's start.
-fn read_full(file: &File, buf: &mut [u8]) -> usize
-    ensures { result ≤ length buf.new }
-{
-    let mut reader = file;
-    let mut done = 0;
-    while done < buf.len() {
-        let n = reader.read(&mut buf[done..]).unwrap_or(0);
-        if n == 0 {
-            return done;
-        }
-        done += n;
-    }
-    done
-}
-
 fn replay_file(rt: &HostRuntime, path: &str) {
     let mut buf = io::large_buffer();
-    let Ok(input) = File::open(rt, path) else {
+    let Ok(mut input) = File::open(rt, path) else {
         io::write_all(1, b"  no such file\n");
         return;
     };
-    let n = read_full(&input, &mut buf);
+    let (n, _) = files::read_full(&mut input, &mut buf);
     replay(&buf[..n]);
 }
 

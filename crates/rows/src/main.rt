@@ -2,12 +2,11 @@
 // (host/data/rows.py, which also says how the file is laid out), and each row cut at every length.
 #![tactic(auto)]
 
-ghost use Rattle.std.specs.Prelude.{◌<◌, ◌≤◌, length};
+ghost use Rattle.std.specs.Prelude.{◌<◌, ◌≤◌};
 
 use duration::Time;
 use row::{ReadNull, ReadRow, Side};
 use std::fs::File;
-use std::io::Read;
 use value::{Date, ReadValue, Value};
 use wire::ReadNum;
 
@@ -423,26 +422,11 @@ fn run(file: &[u8]) {
     say_counts(&counts);
 }
 
-// Reads until the buffer is full, the file ends or a read fails; answers how many bytes it put at the buffer's start.
-fn read_full(file: &File, buf: &mut [u8]) -> usize
-    ensures { result ≤ length buf.new }
-{
-    let mut reader = file;
-    let mut done = 0;
-    while done < buf.len() {
-        let n = reader.read(&mut buf[done..]).unwrap_or(0);
-        if n == 0 {
-            return done;
-        }
-        done += n;
-    }
-    done
-}
-
 fn main(rt: HostRuntime) -> std::io::Result<()> {
-    let input = File::open(&rt, "rows")?;
+    let mut input = File::open(&rt, "rows")?;
     let mut buffer = io::large_buffer();
-    let size = read_full(&input, &mut buffer);
+    let (size, ended) = files::read_full(&mut input, &mut buffer);
+    ended?;
     run(wire::part(&buffer, 0, size));
     Ok(())
 }

@@ -2,11 +2,10 @@
 // gives (host/data/rowvectors.py, which also says how the file is laid out). After a refusal the list must be as it was.
 #![tactic(auto)]
 
-ghost use Rattle.std.specs.Prelude.{◌≤◌, ◌<◌, length};
+ghost use Rattle.std.specs.Prelude.{◌≤◌, ◌<◌};
 
 use row::{ReadCount, ReadNull, ReadRow, Side};
 use std::fs::File;
-use std::io::Read;
 use wire::ReadNum;
 
 const STDOUT_FILENO: i32 = 1;
@@ -219,26 +218,11 @@ fn differences(file: &[u8], n: usize, list: &mut [usize]) -> usize {
     count
 }
 
-// Reads until the buffer is full, the file ends or a read fails; answers how many bytes it put at the buffer's start.
-fn read_full(file: &File, buf: &mut [u8]) -> usize
-    ensures { result ≤ length buf.new }
-{
-    let mut reader = file;
-    let mut done = 0;
-    while done < buf.len() {
-        let n = reader.read(&mut buf[done..]).unwrap_or(0);
-        if n == 0 {
-            return done;
-        }
-        done += n;
-    }
-    done
-}
-
 fn main(rt: HostRuntime) -> std::io::Result<()> {
-    let input = File::open(&rt, "vectors")?;
+    let mut input = File::open(&rt, "vectors")?;
     let mut buffer = io::large_buffer();
-    let size = read_full(&input, &mut buffer);
+    let (size, ended) = files::read_full(&mut input, &mut buffer);
+    ended?;
     let file = &buffer[..size];
     let mut space = [0usize; 4100];
     let list: &mut [usize] = &mut space;

@@ -6,13 +6,12 @@
 // A capture with packed frames comes last: the first of them must be refused with 5, after the packets before it.
 #![tactic(auto)]
 
-ghost use Rattle.std.specs.Prelude.{◌<◌, ◌≤◌, length};
+ghost use Rattle.std.specs.Prelude.{◌<◌, ◌≤◌};
 
 use codec::{Got, Opened};
 use frame::PacketCodec;
 use refusal::number_of;
 use std::fs::File;
-use std::io::Read;
 use wire::{Put, ReadNum, part};
 
 const STDOUT_FILENO: i32 = 1;
@@ -402,26 +401,11 @@ fn run_pieces(name: &[u8], file: &[u8], piece: usize) {
     say_run(name, r);
 }
 
-// Reads until the buffer is full, the file ends or a read fails; answers how many bytes it put at the buffer's start.
-fn read_full(file: &File, buf: &mut [u8]) -> usize
-    ensures { result ≤ length buf.new }
-{
-    let mut reader = file;
-    let mut done = 0;
-    while done < buf.len() {
-        let n = reader.read(&mut buf[done..]).unwrap_or(0);
-        if n == 0 {
-            return done;
-        }
-        done += n;
-    }
-    done
-}
-
 fn run_capture(rt: &HostRuntime, name: &str) -> std::io::Result<()> {
-    let input = File::open(rt, name)?;
+    let mut input = File::open(rt, name)?;
     let mut buffer = io::large_buffer();
-    let size = read_full(&input, &mut buffer);
+    let (size, ended) = files::read_full(&mut input, &mut buffer);
+    ended?;
     let file = &buffer[..size];
     run_pieces(name.as_bytes(), file, 65_536);
     run_pieces(name.as_bytes(), file, 0);

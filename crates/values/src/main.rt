@@ -2,11 +2,10 @@
 // gives (host/data/values.py, which also says how the file is laid out). Where it must not be written no byte may change.
 #![tactic(auto)]
 
-ghost use Rattle.std.specs.Prelude.{◌≤◌, ◌<◌, length};
+ghost use Rattle.std.specs.Prelude.{◌≤◌, ◌<◌};
 
 use duration::Time;
 use std::fs::File;
-use std::io::Read;
 use value::{Date, End, GotValue, ReadValue, Value};
 use wire::{Needed, Put, ReadNum};
 
@@ -359,26 +358,11 @@ fn count_marked(file: &[u8], n: usize, at: usize) -> usize
     count
 }
 
-// Reads until the buffer is full, the file ends or a read fails; answers how many bytes it put at the buffer's start.
-fn read_full(file: &File, buf: &mut [u8]) -> usize
-    ensures { result ≤ length buf.new }
-{
-    let mut reader = file;
-    let mut done = 0;
-    while done < buf.len() {
-        let n = reader.read(&mut buf[done..]).unwrap_or(0);
-        if n == 0 {
-            return done;
-        }
-        done += n;
-    }
-    done
-}
-
 fn main(rt: HostRuntime) -> std::io::Result<()> {
-    let input = File::open(&rt, "vectors")?;
+    let mut input = File::open(&rt, "vectors")?;
     let mut buffer = io::large_buffer();
-    let size = read_full(&input, &mut buffer);
+    let (size, ended) = files::read_full(&mut input, &mut buffer);
+    ended?;
     let file = &buffer[..size];
     let mut space = [0u8; 512];
     let dst: &mut [u8] = &mut space;
