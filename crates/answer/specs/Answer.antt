@@ -1,21 +1,14 @@
 -- OK, ERR and EOF packets of protocol 4.1 (MySQL's document, "OK_Packet", "ERR_Packet", "EOF_Packet"; request W1). s is the whole
 -- packet, and tracking says whether session tracking was agreed.
 use Rattle.std.specs.Prelude.{ℕ, ◌+◌, ◌-◌, ◌/◌, ◌%◌, Bool, cond, List, length, get_or, ltb, eqb}
-use Rattle.refusal.specs.Number.{number}
 use Rattle.refusal.specs.Said.{Said, gives, refused, check, and_then}
 use Rattle.wire.specs.Le.{num_at}
 use Rattle.wire.specs.LenEnc.{len_at, str_at, within}
-use Rattle.wire.specs.declared.LenEncStr.{LenEncStr}
-use Rattle.session.specs.Record.{text_of}
-use Rattle.session.specs.declared.Text.{Text}
+use Rattle.wire.specs.declared.Text.{Text}
 use Rattle.answer.specs.declared.Packet.{Packet}
 use Rattle.answer.specs.declared.Packet.TheVariants as P
 use Rattle.answer.specs.declared.Answered.{Answered}
-use Rattle.answer.specs.declared.ReadAnswer.{ReadAnswer}
-use Rattle.answer.specs.declared.ReadAnswer.TheVariants as A
 use Rattle.answer.specs.declared.Texts.{Texts}
-use Rattle.answer.specs.declared.ReadTexts.{ReadTexts}
-use Rattle.answer.specs.declared.ReadTexts.TheVariants as T
 
 abbrev pub text : ℕ → ℕ → Text
 text at len = record { at = at; len = len }
@@ -41,8 +34,8 @@ abbrev pub tracked_texts : List ℕ → ℕ → Bool → Said Texts
 tracked_texts s at more =
     and_then (str_at s at) (λ m.
     cond more
-    (and_then (str_at s (m.at + m.len)) (λ p. gives (texts (text_of m) (text_of p))))
-    (gives (texts (text_of m) (text (m.at + m.len) 0))))
+    (and_then (str_at s (m.at + m.len)) (λ p. gives (texts m p)))
+    (gives (texts m (text (m.at + m.len) 0))))
 
 -- "(nothing left: no message, no records), else it runs to the end"
 unfoldable pub texts_at : List ℕ → ℕ → Bool → Bool → Said Texts
@@ -75,9 +68,9 @@ ok_at s tracking =
 
 -- ---- ERR: FF, "error code, `#` and five-byte SQL state", and the message to the end; 14 for "an ERR without `#`"
 
-abbrev pub err_of : List ℕ → ℕ → LenEncStr → Answered
+abbrev pub err_of : List ℕ → ℕ → Text → Answered
 err_of s code state =
-    answered (P.Err (record { code = code; state = text_of state; message = rest_of s (state.at + state.len) })) (length s)
+    answered (P.Err (record { code = code; state = state; message = rest_of s (state.at + state.len) })) (length s)
 
 unfoldable pub err_at : List ℕ → Said Answered
 err_at s =
@@ -106,13 +99,3 @@ by_header s tracking header =
 -- "8 for an empty packet"
 unfoldable pub answer_at : List ℕ → Bool → Said Answered
 answer_at s tracking = check (ltb 0 (length s)) 8 (by_header s tracking (get_or s 0 0))
-
--- ---- what the readers' answers say
-
-abbrev pub texts_said : ReadTexts → Said Texts
-texts_said (T.Done t) = gives t
-texts_said (T.Refused r) = refused (number r)
-
-abbrev pub answer_said : ReadAnswer → Said Answered
-answer_said (A.Done a) = gives a
-answer_said (A.Refused r) = refused (number r)

@@ -1,4 +1,5 @@
 -- Laws of OK, ERR and EOF packets: each case as the readers meet it.
+use Rattle.wire.specs.declared.Text.{Text}
 use Rattle.std.specs.Prelude.{ℕ, ◌+◌, ◌-◌, ◌≤◌, ◌<◌, ◌≡◌, Bool, List, length, take, get_or, ltb}
 use Rattle.std.proofs.Math.Path.{refl}
 use Rattle.std.proofs.Common.{ap, ◌∙◌, arith, drop-cons}
@@ -8,8 +9,6 @@ use borrow.Author.Tests.{ne_eqb, le-leb, lt-leb}
 use Rattle.refusal.specs.Said.{Said, gives, refused, and_then, gives_same}
 use Rattle.wire.specs.Le.{le_of, le_at, num_at}
 use Rattle.wire.specs.LenEnc.{str_at}
-use Rattle.wire.specs.declared.LenEncStr.{LenEncStr}
-use Rattle.session.specs.Record.{text_of}
 use Rattle.session.specs.RecordLaws.{str_in, never}
 use Rattle.answer.specs.Answer.{answered, text, texts, rest_of, tracks, tracked_texts, texts_at, ok_of, ok_rest, err_at, eof_at}
 use Rattle.answer.specs.declared.Packet.TheVariants as P
@@ -95,17 +94,17 @@ module _ (s : List ℕ) (t : Texts) where
   is : (a : Texts) → a.records.at + a.records.len ≤ length s → gives a ≡ gives t → In
   is a h e = let q : a ≡ t = gives_same e in rw (← q) h
 
-  second : (m : LenEncStr) (at : ℕ) (r : Said LenEncStr) → str_at s at ≡ r → and_then r (λ p. gives (texts (text_of m) (text_of p))) ≡ gives t → In
-  second m at (gives p) f e = is (texts (text_of m) (text_of p)) (str_in s at p f).1 e
+  second : (m : Text) (at : ℕ) (r : Said Text) → str_at s at ≡ r → and_then r (λ p. gives (texts m p)) ≡ gives t → In
+  second m at (gives p) f e = is (texts m p) (str_in s at p f).1 e
   second m at (refused k) f e = never e
 
-  first : (at : ℕ) (more : Bool) (r : Said LenEncStr) → str_at s at ≡ r
+  first : (at : ℕ) (more : Bool) (r : Said Text) → str_at s at ≡ r
       → and_then r
-      (λ m. cond more (and_then (str_at s (m.at + m.len)) (λ p. gives (texts (text_of m) (text_of p)))) (gives (texts (text_of m) (text (m.at + m.len) 0))))
+      (λ m. cond more (and_then (str_at s (m.at + m.len)) (λ p. gives (texts m p))) (gives (texts m (text (m.at + m.len) 0))))
       ≡ gives t
       → In
   first at true (gives m) f e = second m (m.at + m.len) (str_at s (m.at + m.len)) refl e
-  first at false (gives m) f e = is (texts (text_of m) (text (m.at + m.len) 0)) (omega (arith, str_in s at m f)) e
+  first at false (gives m) f e = is (texts m (text (m.at + m.len) 0)) (omega (arith, str_in s at m f)) e
   first at more (refused k) f e = never e
 
   pub texts_in : (at : ℕ) (tracking more : Bool) → at ≤ length s → texts_at s at tracking more ≡ gives t → t.records.at + t.records.len ≤ length s
@@ -116,3 +115,11 @@ module _ (s : List ℕ) (t : Texts) where
       by : (b : Bool) → cond b (tracked_texts s at more) (gives (texts (text at 0) (text at 0))) ≡ gives t → In
       by true f = first at more (str_at s at) refl f
       by false f = is (texts (text at 0) (text at 0)) (omega arith) f
+
+-- ---- the cases of each packet, for the proofs of its reader
+
+pub ruleset eof_cases = (eof_short, eof_read)
+
+pub ruleset err_cases = (err_short, err_unmarked, err_cut, err_read)
+
+pub ruleset ok_cases = (ok_short, ok_numbers, texts_in)

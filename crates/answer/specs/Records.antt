@@ -1,5 +1,6 @@
 -- The session records of an OK packet: "(type, length-encoded body)", by cursor, and which part of the packet is handed on for each.
-use Rattle.std.specs.Prelude.{ℕ, ◌+◌, ◌-◌, cond, List, length, take, leb, eqb}
+use Rattle.refusal.specs.declared.Refusal.{Refusal}
+use Rattle.std.specs.Prelude.{ℕ, ◌+◌, ◌-◌, cond, List, length, take, leb, eqb, Result, Ok, Err, Option, Some, None}
 use Rattle.refusal.specs.Number.{number}
 use Rattle.refusal.specs.Said.{Said, gives, refused, check, and_then}
 use Rattle.wire.specs.Le.{num_at}
@@ -7,8 +8,6 @@ use Rattle.wire.specs.LenEnc.{str_at, part_of}
 use Rattle.session.specs.Record.{record_at}
 use Rattle.session.specs.declared.Record.{Record}
 use Rattle.answer.specs.declared.Handed.{Handed}
-use Rattle.answer.specs.declared.NextRecord.{NextRecord}
-use Rattle.answer.specs.declared.NextRecord.TheVariants as N
 
 -- a record's type, the part that is handed on, and the place of the next record
 abbrev pub handing : ℕ → ℕ → ℕ → ℕ → Handed
@@ -42,10 +41,10 @@ next_in s at = cond (eqb at (length s)) (gives end) (and_then (record_in s at) (
 unfoldable pub next_at : List ℕ → ℕ → ℕ → Said Found
 next_at s at limit = check (leb limit (length s)) 8 (next_in (take limit s) at)
 
-abbrev pub next_said : NextRecord → Said Found
-next_said N.End = gives end
-next_said (N.Record h) = gives (one h)
-next_said (N.Refused r) = refused (number r)
+abbrev pub next_said : Result (Option Handed) Refusal → Said Found
+next_said (Ok None) = gives end
+next_said (Ok (Some h)) = gives (one h)
+next_said (Err r) = refused (number r)
 
 -- what the existing reader says of the part that is handed on
 abbrev pub handed_record : List ℕ → Handed → Said Record

@@ -1,4 +1,5 @@
 -- Laws of the session records of an OK packet: the cursor's cases, and which part is handed on for each type.
+use Rattle.wire.specs.declared.Text.{Text}
 use Rattle.std.specs.Prelude.{ℕ, ◌+◌, ◌-◌, ◌≤◌, ◌<◌, ◌≡◌, refl, Bool, true, false, cond, List, length, take, get_or, eqb}
 use Rattle.std.proofs.Common.{sym, ap, ◌∙◌, arith, length-take-le, eq-eqb, ne_eqb, le-leb}
 use Rattle.std.proofs.Math.Decide.{dec_lt}
@@ -6,7 +7,6 @@ use Rattle.std.proofs.lemmas.Bool.{lt-leb}
 use Rattle.refusal.specs.Said.{Said, gives, refused, and_then}
 use Rattle.wire.specs.LenEnc.{str_at, part_of}
 use Rattle.wire.specs.LenEncLaws.{part_fits}
-use Rattle.wire.specs.declared.LenEncStr.{LenEncStr}
 use Rattle.session.specs.RecordLaws.{str_in, never}
 use Rattle.answer.specs.AnswerLaws.{num_there, num_short, one_byte}
 use Rattle.answer.specs.Records.{handing, handed_of, end, one, next_in, next_at}
@@ -44,11 +44,14 @@ unfolding next_in
 next_one s at h =
     simp (ne_eqb at (length s) (λ e. omega arith), num_there s at 1 (omega arith), one_byte s at h) (by (str_at s (at + 1)))
   where
-    by : (r : Said LenEncStr)
+    by : (r : Said Text)
         → and_then (and_then r (λ b. gives (handed_of (get_or s at 0) (at + 1) b.at b.len))) (λ h. gives (one h))
         ≡ and_then r (λ b. gives (one (handed_of (get_or s at 0) (at + 1) b.at b.len)))
     by (gives b) = refl
     by (refused k) = refl
+
+-- what the proof of the cursor leans on
+pub ruleset next_cases = (str_in, next_end, next_past, next_one)
 
 pub next-over : (s : List ℕ) (at limit : ℕ) → length s < limit → next_at s at limit ≡ refused 8
 unfolding next_at
@@ -89,7 +92,7 @@ moves_in r at h e = elim (dec_lt at (length r)) [
     Moves : Type 0
     Moves = (at < h.at) × (h.at + h.len ≡ h.next) × (at < h.next) × (h.next ≤ length r)
 
-    by : (x : Said LenEncStr) → str_at r (at + 1) ≡ x
+    by : (x : Said Text) → str_at r (at + 1) ≡ x
         → and_then x (λ b. gives (one (handed_of (get_or r at 0) (at + 1) b.at b.len))) ≡ gives (one h) → Moves
     by (gives b) f g =
         let q : handed_of (get_or r at 0) (at + 1) b.at b.len ≡ h = cc g in

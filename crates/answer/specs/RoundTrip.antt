@@ -4,7 +4,7 @@ use Rattle.refusal.specs.Said.{Said, gives, refused, and_then}
 use Rattle.wire.specs.LenEnc.{str_bytes, part_of}
 use Rattle.session.specs.Record.{bytes_of}
 use Rattle.session.specs.RoundTrip.{ReadsBack}
-use Rattle.session.specs.declared.Text.{Text}
+use Rattle.wire.specs.declared.Text.{Text}
 use Rattle.session.specs.declared.SessionStateChange.{SessionStateChange}
 use Rattle.session.specs.declared.SessionStateChange.TheVariants as Of
 use Rattle.answer.specs.Answer.{answered, answer_at, tracks}

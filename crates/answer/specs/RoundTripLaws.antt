@@ -1,5 +1,6 @@
 -- What was written is read back: each packet, with and without tracking; for every choice of fields in their widths.
-use Rattle.std.specs.Prelude.{ℕ, ◌+◌, ◌-◌, ◌≤◌, ◌<◌, ◌^◌, ◌≡◌, Bool, cond, take}
+use Rattle.refusal.specs.declared.Refusal.{Refusal}
+use Rattle.std.specs.Prelude.{ℕ, ◌+◌, ◌-◌, ◌≤◌, ◌<◌, ◌^◌, ◌≡◌, Bool, cond, take, Result}
 use Rattle.std.proofs.Math.Path.{refl, sym, ap}
 use Rattle.std.proofs.Common.{◌∙◌, arith, drop-drop, take_at, get_or-drop, lt-ltb}
 use Rattle.std.proofs.Math.Bool.{true, false}
@@ -12,7 +13,6 @@ use Rattle.wire.specs.LeLaws.{le_length}
 use Rattle.wire.specs.LenEnc.{len_bytes, str_bytes, part_of}
 use Rattle.wire.specs.LenEncLaws.{int_back, str_back, part_back, part_fits, le_back, len_length}
 use Rattle.wire.specs.Room.{Wrote}
-use Rattle.wire.specs.declared.Put.{Put}
 use Rattle.session.specs.Record.{bytes_of}
 use Rattle.session.specs.RecordLaws.{wrote_part}
 use Rattle.answer.specs.Answer.{text, texts, rest_of, answered, tracks, texts_at, ok_of, ok_at, answer_at}
@@ -237,6 +237,6 @@ eof_back warnings status t tracking hw hs l =
 -- ---- a buffer in between
 
 -- what holds of the bytes that a writer was to write holds of the part of the buffer that it filled
-pub through : (Holds : List ℕ → Type 0) {bs d : List ℕ} {at : ℕ} {r : Put} {d' : List ℕ} → at + length bs ≤ length d → Wrote bs d at r d'
+pub through : (Holds : List ℕ → Type 0) {bs d : List ℕ} {at : ℕ} {r : Result ℕ Refusal} {d' : List ℕ} → at + length bs ≤ length d → Wrote bs d at r d'
     → Holds bs → Holds (part_of d' at (length bs))
 through Holds h w p = rw (wrote_part w h) p

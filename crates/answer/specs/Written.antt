@@ -1,10 +1,10 @@
 -- OK, ERR and EOF packets and session records as they are written.
-use Rattle.std.specs.Prelude.{ℕ, ◌+◌, ◌≡◌, Bool, false, cond, List, [], ◌∷◌, ◌++◌, length, get_or, leb, eqb}
-use Rattle.refusal.specs.Said.{gives, check}
+use Rattle.refusal.specs.declared.Refusal.{Refusal}
+use Rattle.std.specs.Prelude.{ℕ, ◌+◌, ◌≡◌, Bool, false, cond, List, [], ◌∷◌, ◌++◌, length, get_or, leb, eqb, Result}
+use Rattle.refusal.specs.Said.{gives, check, said_of}
 use Rattle.wire.specs.Le.{le_bytes}
 use Rattle.wire.specs.LenEnc.{len_bytes, str_bytes}
-use Rattle.wire.specs.Room.{patch, put_said}
-use Rattle.wire.specs.declared.Put.{Put}
+use Rattle.wire.specs.Room.{patch}
 use Rattle.answer.specs.Answer.{tracks}
 
 -- two numbers of two bytes
@@ -34,8 +34,8 @@ abbrev pub err_bytes : ℕ → List ℕ → List ℕ → List ℕ
 err_bytes code state message = err_head code state ++ message
 
 -- "five-byte SQL state": with any other 8, and no byte changed; else as every writer
-pub record WroteErr (code : ℕ) (state message d : List ℕ) (at : ℕ) (r : Put) (d' : List ℕ) : Type 0 where
-  pub said : put_said r
+pub record WroteErr (code : ℕ) (state message d : List ℕ) (at : ℕ) (r : Result ℕ Refusal) (d' : List ℕ) : Type 0 where
+  pub said : said_of r
       ≡ check (eqb (length state) 5) 8
       (check (leb (at + length (err_bytes code state message)) (length d)) 6 (gives (at + length (err_bytes code state message))))
   pub left : d'

@@ -1,18 +1,17 @@
 -- Laws of what is written: two writers of which the second goes first.
-use Rattle.std.specs.Prelude.{ℕ, ◌+◌, ◌≤◌, ◌<◌, ◌≡◌, refl, Bool, true, false, List, [], ◌∷◌, ◌++◌, length, take, drop, leb}
+use Rattle.std.specs.Prelude.{ℕ, ◌+◌, ◌≤◌, ◌<◌, ◌≡◌, refl, Bool, true, false, List, [], ◌∷◌, ◌++◌, length, take, drop, leb, Result, Ok, Err}
 use Rattle.std.proofs.Common.{sym, ap, ◌∙◌, append_assoc, arith, length-append, take-take, drop_at, length-take-le, le-leb, leb-true, leb-false, eq-eqb, ne_eqb}
 use Rattle.std.proofs.lemmas.List.{take-append-le}
 use Rattle.std.proofs.lemmas.Bool.{lt-leb}
-use Rattle.refusal.specs.Said.{gives, refused, gives_not_refused}
+use Rattle.refusal.specs.Said.{gives, refused, gives_not_refused, said_of}
 use Rattle.refusal.specs.declared.Refusal.{Refusal}
 use Rattle.wire.specs.Le.{le_bytes}
 use Rattle.wire.specs.LeLaws.{le_length}
 use Rattle.wire.specs.LenEnc.{len_bytes}
-use Rattle.wire.specs.Room.{Wrote, patch, put_said}
-use Rattle.wire.specs.RoomLaws.{wrote_left, length-patch}
-use Rattle.wire.specs.declared.Put.{Put}
-use Rattle.wire.specs.declared.Put.TheVariants.{Next, Refused}
-use Rattle.session.specs.RecordLaws.{wrote_then}
+use Rattle.wire.specs.LenEncLaws.{len_length}
+use Rattle.wire.specs.Room.{Wrote, patch}
+use Rattle.wire.specs.RoomLaws.{wrote_left, wrote_full, has_yes, has_no, length-patch}
+use Rattle.session.specs.RecordLaws.{wrote_on, wrote_never}
 use Rattle.answer.specs.Written.{words, ok_head, err_head, err_bytes, WroteErr}
 
 -- some bytes, and others put before them
@@ -35,10 +34,10 @@ module _ (a b d : List ℕ) (at : ℕ) {n : ℕ} (e : n ≡ length a) where
   sum = omega (arith, length-append a b)
 
   -- the bytes b fit behind a, and then a is written before them
-  pub wrote_before : {m : ℕ} {r : Put} {d₁ d₂ : List ℕ} → Wrote b d (at + n) (Next m) d₁ → Wrote a d₁ at r d₂ → Wrote (a ++ b) d at (Next m) d₂
+  pub wrote_before : {m : ℕ} {r : Result ℕ Refusal} {d₁ d₂ : List ℕ} → Wrote b d (at + n) (Ok m) d₁ → Wrote a d₁ at r d₂ → Wrote (a ++ b) d at (Ok m) d₂
   wrote_before {m} {r} {d₁} {d₂} w v = by (leb (at + n + length b) (length d)) refl
     where
-      by : (t : Bool) → leb (at + n + length b) (length d) ≡ t → Wrote (a ++ b) d at (Next m) d₂
+      by : (t : Bool) → leb (at + n + length b) (length d) ≡ t → Wrote (a ++ b) d at (Ok m) d₂
       by true t =
           let fits : at + n + length b ≤ length d = leb-true (at + n + length b) (length d) t in
           let l : at + length (a ++ b) ≤ length d = omega (arith, sum) in
@@ -54,10 +53,10 @@ module _ (a b d : List ℕ) (at : ℕ) {n : ℕ} (e : n ≡ length a) where
       by false t = absurd (gives_not_refused (rw t at w.said))
 
   -- they don't: then nothing is written
-  pub wrote_before_not : {q : Refusal} {d₁ : List ℕ} → Wrote b d (at + n) (Refused q) d₁ → Wrote (a ++ b) d at (Refused q) d₁
+  pub wrote_before_not : {q : Refusal} {d₁ : List ℕ} → Wrote b d (at + n) (Err q) d₁ → Wrote (a ++ b) d at (Err q) d₁
   wrote_before_not {q} {d₁} w = by (leb (at + n + length b) (length d)) refl
     where
-      by : (t : Bool) → leb (at + n + length b) (length d) ≡ t → Wrote (a ++ b) d at (Refused q) d₁
+      by : (t : Bool) → leb (at + n + length b) (length d) ≡ t → Wrote (a ++ b) d at (Err q) d₁
       by true t = absurd (gives_not_refused (sym (rw t at w.said)))
       by false t =
           let l : length d < at + length (a ++ b) = omega (arith, sum, leb-false (at + n + length b) (length d) t) in
@@ -95,38 +94,37 @@ byte_alone b h = ap (λ (n : ℕ). n ∷ []) (omega arith)
 
 -- an ERR packet with a state of five bytes, and with another
 module _ (code : ℕ) (state message d : List ℕ) (at : ℕ) where
-  pub err_wrote : {r : Put} {d' : List ℕ} → length state ≡ 5 → Wrote (err_bytes code state message) d at r d' → WroteErr code state message d at r d'
+  pub err_wrote : {r : Result ℕ Refusal} {d' : List ℕ} → length state ≡ 5 → Wrote (err_bytes code state message) d at r d' → WroteErr code state message d at r d'
   err_wrote e w = record { said = simp (eq-eqb (length state) 5 e) w.said; left = simp (eq-eqb (length state) 5 e) w.left }
 
-  pub err_not : {r : Put} → (length state ≡ 5 → ⊥) → put_said r ≡ refused 8 → WroteErr code state message d at r d
+  pub err_not : {r : Result ℕ Refusal} → (length state ≡ 5 → ⊥) → said_of r ≡ refused 8 → WroteErr code state message d at r d
   err_not n s = record { said = simp (ne_eqb (length state) 5 n) s; left = simp (ne_eqb (length state) 5 n) }
 
 -- ---- writers one behind the other
 
-wrote_on : (a b d : List ℕ) (at : ℕ) {p : ℕ} {r r' : Put} {d₁ d₂ : List ℕ} → p ≡ at + length a → p + length b ≤ length d
-    → Wrote a d at r d₁ → Wrote b d₁ p r' d₂ → Wrote (a ++ b) d at r' d₂
-wrote_on a b d at e h w v = wrote_then a b d at refl (omega arith) w (rw e at v)
-
-pub ok_head_wrote : (rows id status warnings : ℕ) (d : List ℕ) (at : ℕ) {n m : ℕ} {r₀ r₁ r₂ r₃ : Put} {d₀ d₁ d₂ d₃ : List ℕ}
-    → n ≡ length (len_bytes rows) → m ≡ length (len_bytes id) → at + length (ok_head rows id status warnings) ≤ length d
-    → Wrote (0x00 ∷ []) d at r₀ d₀ → Wrote (len_bytes rows) d₀ (at + 1) r₁ d₁ → Wrote (len_bytes id) d₁ (at + 1 + n) r₂ d₂
-    → Wrote (words status warnings) d₂ (at + 1 + n + m) r₃ d₃ → Wrote (ok_head rows id status warnings) d at r₃ d₃
-ok_head_wrote rows id status warnings d at {n} {m} e f h w₀ w₁ w₂ w₃ =
+pub ok_head_wrote : (rows id status warnings : ℕ) (d : List ℕ) (at : ℕ) {p₁ p₂ p₃ : ℕ} {r : Result ℕ Refusal} {d₁ d₂ d₃ d₄ : List ℕ}
+    → at + length (ok_head rows id status warnings) ≤ length d → Wrote (0x00 ∷ []) d at (Ok p₁) d₁ → Wrote (len_bytes rows) d₁ p₁ (Ok p₂) d₂
+    → Wrote (len_bytes id) d₂ p₂ (Ok p₃) d₃ → Wrote (words status warnings) d₃ p₃ r d₄ → Wrote (ok_head rows id status warnings) d at r d₄
+ok_head_wrote rows id status warnings d at h w₁ w₂ w₃ w₄ =
     let l = ok_head_length rows id status warnings in
     let two = (0x00 ∷ []) ++ len_bytes rows in
-    let k : length (two ++ len_bytes id) ≡ length two + length (len_bytes id) = length-append two (len_bytes id) in
-    let first = wrote_on (0x00 ∷ []) (len_bytes rows) d at {p = at + 1} refl (omega (arith, l)) w₀ w₁ in
-    let second = wrote_on two (len_bytes id) d at {p = at + 1 + n} (omega (arith, e)) (omega (arith, l, e)) first w₂ in
-    wrote_on (two ++ len_bytes id) (words status warnings) d at {p = at + 1 + n + m} (omega (arith, e, f, k))
-    (omega (arith, l, e, f, words-length status warnings)) second w₃
+    let k = length-append two (len_bytes id) in
+    let second = wrote_on (0x00 ∷ []) (len_bytes rows) d at w₁ w₂ (omega (arith, l)) in
+    let third = wrote_on two (len_bytes id) d at second w₃ (omega (arith, l)) in
+    wrote_on (two ++ len_bytes id) (words status warnings) d at third w₄ (omega (arith, l, k, words-length status warnings))
 
-pub err_head_wrote : (code : ℕ) (state d : List ℕ) (at : ℕ) {r₀ r₁ r₂ r₃ : Put} {d₀ d₁ d₂ d₃ : List ℕ} → length state ≡ 5 → at + 9 ≤ length d
-    → Wrote (0xFF ∷ []) d at r₀ d₀ → Wrote (le_bytes 2 code) d₀ (at + 1) r₁ d₁ → Wrote (0x23 ∷ []) d₁ (at + 3) r₂ d₂ → Wrote state d₂ (at + 4) r₃ d₃
-    → Wrote (err_head code state) d at r₃ d₃
-err_head_wrote code state d at e h w₀ w₁ w₂ w₃ =
-    let l = le_length 2 code in
+pub err_head_wrote : (code : ℕ) (state d : List ℕ) (at : ℕ) {p₁ p₂ p₃ : ℕ} {r : Result ℕ Refusal} {d₁ d₂ d₃ d₄ : List ℕ}
+    → at + length (err_head code state) ≤ length d → Wrote (0xFF ∷ []) d at (Ok p₁) d₁ → Wrote (le_bytes 2 code) d₁ p₁ (Ok p₂) d₂
+    → Wrote (0x23 ∷ []) d₂ p₂ (Ok p₃) d₃ → Wrote state d₃ p₃ r d₄ → Wrote (err_head code state) d at r d₄
+err_head_wrote code state d at h w₁ w₂ w₃ w₄ =
     let two = (0xFF ∷ []) ++ le_bytes 2 code in
-    let k : length (two ++ (0x23 ∷ [])) ≡ length two + 1 = length-append two (0x23 ∷ []) in
-    let first = wrote_on (0xFF ∷ []) (le_bytes 2 code) d at {p = at + 1} refl (omega (arith, l)) w₀ w₁ in
-    let second = wrote_on two (0x23 ∷ []) d at {p = at + 3} (omega (arith, l)) (omega arith) first w₂ in
-    wrote_on (two ++ (0x23 ∷ [])) state d at {p = at + 4} (omega (arith, l, k)) (omega (arith, e)) second w₃
+    let three = two ++ (0x23 ∷ []) in
+    let l = length-append (0xFF ∷ []) (le_bytes 2 code) in
+    let k = length-append two (0x23 ∷ []) in
+    let n = length-append three state in
+    let second = wrote_on (0xFF ∷ []) (le_bytes 2 code) d at w₁ w₂ (omega (arith, l, k, n)) in
+    let third = wrote_on two (0x23 ∷ []) d at second w₃ (omega (arith, k, n)) in
+    wrote_on three state d at third w₄ (omega (arith, n))
+
+-- what a writer's proof leans on
+pub ruleset writing = (has_yes, has_no, wrote_full, wrote_never, le_length, len_length, words-length, err_head_length, ok_head_length)

@@ -4,220 +4,86 @@
 // wanted, those of a connection as long as its limit asks for.
 #![tactic(auto)]
 
-ghost use Rattle.std.specs.Prelude.{◌<◌, ◌≤◌};
+ghost use Rattle.std.specs.Prelude.{◌<◌};
 
-use codec::{Got, Opened};
+use chunk::Decoded;
 use duration::Time;
+use files::{byte_at, half_at, long_at, word_at};
 use frame::PacketCodec;
-use refusal::Refusal;
+use refusal::{Refusal, number_of};
+use std::alloc::{AllocError, Global};
 use std::fs::File;
-use value::{Date, GotValue, ReadValue, Value};
-use wire::{Put, ReadInt, ReadNum, ReadStr, part};
+use std::io;
+use std::io::Read;
+use std::rt::Files;
+use value::{Date, Value};
+use wire::{Parsed, Text, part};
 
-const STDOUT_FILENO: i32 = 1;
+// How many bytes of the list are read: what a longer file has behind them is not.
+const LIST: u64 = 262_144;
 
-// ---- numbers of the file, low byte first; 0 past its end
+// The operations by their numbers in the list.
+const OPERATIONS: [(u16, &str); 13] = [
+    (0x01, "length-encoded integers read"),
+    (0x02, "length-encoded strings read"),
+    (0x03, "binary values read"),
+    (0x04, "text values read"),
+    (0x05, "length-encoded integers written"),
+    (0x06, "values written"),
+    (0x07, "texts quoted"),
+    (0x10, "connections opened"),
+    (0x11, "frames turned on"),
+    (0x12, "numbers reset"),
+    (0x13, "numbers synced"),
+    (0x14, "packets written"),
+    (0x15, "packet reads"),
+];
 
-fn byte(s: &[u8], at: usize) -> u8 {
-    if at < s.len() { s[at] } else { 0 }
+// The front of a file, as many bytes as are asked for.
+fn read_front(rt: &(impl Files + AllocGlobal), name: &str, most: u64) -> io::Result<Vec<u8>> {
+    let mut bytes = Vec::new(rt.alloc());
+    File::open(rt, name)?.take(most).read_to_end(&mut bytes)?;
+    Ok(bytes)
 }
 
-fn half(s: &[u8], at: usize) -> usize
-    ensures { result < 65536 }
-{
-    match wire::checked_eat_u16_le(s, at) {
-        ReadNum::Done(n) => (n.value % 0x1_0000) as usize,
-        ReadNum::Refused(_) => 0,
-    }
-}
-
-fn word(s: &[u8], at: usize) -> usize
-    ensures { result < 0x1_0000_0000 }
-{
-    match wire::checked_eat_u32_le(s, at) {
-        ReadNum::Done(n) => (n.value % 0x1_0000_0000) as usize,
-        ReadNum::Refused(_) => 0,
-    }
-}
-
-fn long(s: &[u8], at: usize) -> u64 {
-    match wire::checked_eat_u64_le(s, at) {
-        ReadNum::Done(n) => n.value,
-        ReadNum::Refused(_) => 0,
-    }
+// The bytes from a place on; none where it is past the end.
+fn tail(bytes: &[u8], at: usize) -> &[u8] {
+    bytes.get(at..).unwrap_or_default()
 }
 
 // The bytes from a place up to another.
-fn between(s: &[u8], from: usize, to: usize) -> &[u8] {
-    part(s, from, std::num::wrapping_sub_usize(to, from))
-}
-
-fn line_at(file: &[u8], k: usize) -> &[u8]
-    requires { k < 0x1_0000_0000 }
-{
-    between(file, word(file, 4 + 4 * k), word(file, 8 + 4 * k))
-}
-
-fn field(line: &[u8], j: usize) -> &[u8]
-    requires { j < 8 }
-{
-    between(line, half(line, 2 + 2 * j), half(line, 4 + 2 * j))
-}
-
-// ---- readers
-
-// A refusal is the one wanted, and no answer stands beside it.
-fn refused_right(r: Refusal, status: &[u8], answer: &[u8]) -> bool {
-    refusal::number_of(r) == byte(status, 0) && answer.len() == 0
-}
-
-fn int_right(line: &[u8]) -> bool {
-    match wire::checked_eat_lenenc_int(field(line, 0), word(field(line, 1), 0)) {
-        ReadInt::Done(n) => {
-            byte(field(line, 2), 0) == 0
-                && n.value == long(field(line, 3), 0)
-                && n.next == word(field(line, 4), 0)
-        }
-        ReadInt::Refused(r) => refused_right(r, field(line, 2), field(line, 3)),
-    }
-}
-
-fn str_right(line: &[u8]) -> bool {
-    match wire::checked_eat_lenenc_str(field(line, 0), word(field(line, 1), 0)) {
-        ReadStr::Done(p) => {
-            byte(field(line, 2), 0) == 0
-                && p.at == word(field(line, 3), 0)
-                && p.len == word(field(line, 4), 0)
-        }
-        ReadStr::Refused(r) => refused_right(r, field(line, 2), field(line, 3)),
-    }
+fn between(bytes: &[u8], from: usize, to: usize) -> &[u8] {
+    bytes.get(from..to).unwrap_or_default()
 }
 
 // ---- values out of a payload
 
 fn date_of(p: &[u8]) -> Date {
     Date {
-        year: half(p, 0) as u16,
-        month: byte(p, 2),
-        day: byte(p, 3),
-        hour: byte(p, 4),
-        minutes: byte(p, 5),
-        seconds: byte(p, 6),
-        micros: word(p, 7) as u32,
+        year: half_at(p, 0),
+        month: byte_at(p, 2),
+        day: byte_at(p, 3),
+        hour: byte_at(p, 4),
+        minutes: byte_at(p, 5),
+        seconds: byte_at(p, 6),
+        micros: word_at(p, 7),
     }
 }
 
 fn time_of(p: &[u8]) -> Time {
     Time {
-        neg: byte(p, 0) == 1,
-        days: word(p, 1) as u32,
-        hours: byte(p, 5),
-        minutes: byte(p, 6),
-        seconds: byte(p, 7),
-        micros: word(p, 8) as u32,
+        neg: byte_at(p, 0) == 1,
+        days: word_at(p, 1),
+        hours: byte_at(p, 5),
+        minutes: byte_at(p, 6),
+        seconds: byte_at(p, 7),
+        micros: word_at(p, 8),
     }
 }
 
-fn same_date(a: Date, b: Date) -> bool {
-    a.year == b.year
-        && a.month == b.month
-        && a.day == b.day
-        && a.hour == b.hour
-        && a.minutes == b.minutes
-        && a.seconds == b.seconds
-        && a.micros == b.micros
-}
-
-fn same_time(a: Time, b: Time) -> bool {
-    a.neg == b.neg
-        && a.days == b.days
-        && a.hours == b.hours
-        && a.minutes == b.minutes
-        && a.seconds == b.seconds
-        && a.micros == b.micros
-}
-
-// The list's number of a value's kind: a NaN is a float.
-fn kind_of(v: Value) -> u8 {
-    match v {
-        Value::NULL => 0,
-        Value::Bytes { at: _, len: _ } => 1,
-        Value::Int(_) => 2,
-        Value::UInt(_) => 3,
-        Value::Float(_) => 4,
-        Value::NanFloat(_) => 4,
-        Value::Double(_) => 5,
-        Value::NanDouble(_) => 5,
-        Value::Date(_) => 6,
-        Value::Time(_) => 7,
-    }
-}
-
-// Integers and floats are compared by the bytes that they are written in: all of the bits, those of a NaN too.
-fn same_bits(out: &mut [u8], v: Value, p: &[u8]) -> bool {
-    match value::serialize(out, 0, b"", v) {
-        Put::Next(n) => check::same(part(out, 0, n), p),
-        Put::Refused(_) => false,
-    }
-}
-
-fn same_value(out: &mut [u8], v: Value, p: &[u8]) -> bool {
-    match v {
-        Value::NULL => p.len() == 0,
-        Value::Bytes { at: from, len } => from == word(p, 0) && len == word(p, 4),
-        Value::Date(d) => same_date(d, date_of(p)),
-        Value::Time(t) => byte(p, 0) < 2 && same_time(t, time_of(p)),
-        _ => same_bits(out, v, p),
-    }
-}
-
-// Whether a value is the one that the four fields from j on want: status, kind, payload, next.
-fn got_right(out: &mut [u8], line: &[u8], j: usize, g: GotValue) -> bool
-    requires { j < 5 }
-{
-    let v = g.value;
-    byte(field(line, j), 0) == 0
-        && g.next == word(field(line, j + 3), 0)
-        && kind_of(v) == byte(field(line, j + 1), 0)
-        && same_value(out, v, field(line, j + 2))
-}
-
-fn value_right(out: &mut [u8], line: &[u8], j: usize, r: ReadValue) -> bool
-    requires { j < 5 }
-{
-    match r {
-        ReadValue::Done(g) => got_right(out, line, j, g),
-        ReadValue::Refused(why) => refused_right(why, field(line, j), field(line, j + 1)),
-    }
-}
-
-fn bin_right(out: &mut [u8], line: &[u8]) -> bool {
-    let at = word(field(line, 1), 0);
-    let unsigned = byte(field(line, 3), 0) != 0;
-    let r = value::deserialize_bin(field(line, 0), at, byte(field(line, 2), 0), unsigned);
-    value_right(out, line, 4, r)
-}
-
-fn text_right(out: &mut [u8], line: &[u8]) -> bool {
-    let r = value::deserialize_text(field(line, 0), word(field(line, 1), 0));
-    value_right(out, line, 2, r)
-}
-
-// ---- writers
-
-// Whether the bytes wanted were written, and fill the buffer.
-fn put_right(put: Put, out: &[u8], want: &[u8]) -> bool {
-    match put {
-        Put::Next(n) => n == want.len() && check::same(out, want),
-        Put::Refused(_) => false,
-    }
-}
-
-fn read_or_null(r: ReadValue) -> Value {
-    match r {
-        ReadValue::Done(g) => g.value,
-        ReadValue::Refused(_) => Value::NULL,
-    }
+// A number by its column type's reader.
+fn number_of_type(p: &[u8], column_type: u8) -> Value {
+    value::deserialize_bin(p, 0, column_type, false).map_or(Value::NULL, |got| got.value)
 }
 
 // The value of a kind; signed numbers and floats come by their column type's reader.
@@ -227,305 +93,327 @@ fn value_of(kind: u8, p: &[u8]) -> Value {
             at: 0,
             len: p.len(),
         },
-        2 => read_or_null(value::deserialize_bin(p, 0, 8, false)),
-        3 => Value::UInt(long(p, 0)),
-        4 => read_or_null(value::deserialize_bin(p, 0, 4, false)),
-        5 => read_or_null(value::deserialize_bin(p, 0, 5, false)),
+        2 => number_of_type(p, 8),
+        3 => Value::UInt(long_at(p, 0)),
+        4 => number_of_type(p, 4),
+        5 => number_of_type(p, 5),
         6 => Value::Date(date_of(p)),
         7 => Value::Time(time_of(p)),
         _ => Value::NULL,
     }
 }
 
-fn int_put_right(out: &mut [u8], line: &[u8]) -> bool {
-    let put = wire::put_lenenc_int(out, 0, long(field(line, 0), 0));
-    put_right(put, out, field(line, 1))
-}
-
-fn value_put_right(out: &mut [u8], line: &[u8]) -> bool {
-    let p = field(line, 1);
-    let v = value_of(byte(field(line, 0), 0), p);
-    let put = value::serialize(out, 0, p, v);
-    put_right(put, out, field(line, 2))
-}
-
-fn quoted_right(out: &mut [u8], line: &[u8]) -> bool {
-    let put = escape::escaped(out, 0, field(line, 0), byte(field(line, 1), 0) != 0);
-    put_right(put, out, field(line, 2))
-}
-
-// ---- connections
-
-// The connection's codec after a line, and whether the line was answered as it should be.
-#[derive(Clone, Copy)]
-struct End {
-    st: PacketCodec,
-    right: bool,
-}
-
-fn ended(st: PacketCodec, right: bool) -> End {
-    End { st, right }
-}
-
-// Whether the number, the frame number and the unread bytes are those of the three fields from j on. A refused read ends its
-// connection, and what is unread then is not compared.
-fn left_right(line: &[u8], j: usize, st: PacketCodec, staging: &[u8]) -> bool
-    requires { j < 6 }
-{
-    st.number == byte(field(line, j), 0)
-        && st.frame == byte(field(line, j + 1), 0)
-        && (st.closed || check::same(part(staging, 0, st.unread), field(line, j + 2)))
-}
-
-fn open_line(line: &[u8]) -> End {
-    match codec::opening(word(field(line, 0), 0)) {
-        Opened::Open(st) => ended(st, true),
-        Opened::Refused(_, st) => ended(st, false),
+// The list's number of a value's kind: a NaN is a float.
+fn kind_of(v: Value) -> u8 {
+    match v {
+        Value::NULL => 0,
+        Value::Bytes { .. } => 1,
+        Value::Int(_) => 2,
+        Value::UInt(_) => 3,
+        Value::Float(_) | Value::NanFloat(_) => 4,
+        Value::Double(_) | Value::NanDouble(_) => 5,
+        Value::Date(_) => 6,
+        Value::Time(_) => 7,
     }
 }
 
-fn call_line(staging: &[u8], st: PacketCodec, line: &[u8]) -> End {
-    ended(st, left_right(line, 0, st, staging))
+fn same_date(a: Date, b: Date) -> bool {
+    let day = |d: Date| (d.year, d.month, d.day);
+    let clock = |d: Date| (d.hour, d.minutes, d.seconds, d.micros);
+    day(a) == day(b) && clock(a) == clock(b)
 }
 
-fn sent_right(put: Put, out: &[u8], line: &[u8]) -> bool {
-    match put {
-        Put::Next(n) => {
-            byte(field(line, 1), 0) == 0 && put_right(Put::Next(n), out, field(line, 2))
+fn same_time(a: Time, b: Time) -> bool {
+    let day = |t: Time| (t.neg, t.days);
+    let clock = |t: Time| (t.hours, t.minutes, t.seconds, t.micros);
+    day(a) == day(b) && clock(a) == clock(b)
+}
+
+// Integers and floats are compared by the bytes that they are written in: all of the bits, those of a NaN too.
+fn same_bits(v: Value, p: &[u8]) -> bool {
+    let mut out = [0u8; 8];
+    value::serialize(&mut out, 0, b"", v).is_ok_and(|n| part(&out, 0, n) == p)
+}
+
+fn same_value(v: Value, p: &[u8]) -> bool {
+    match v {
+        Value::NULL => p.is_empty(),
+        Value::Bytes { at, len } => {
+            at == word_at(p, 0) as usize && len == word_at(p, 4) as usize
         }
-        Put::Refused(why) => refused_right(why, field(line, 1), field(line, 2)),
+        Value::Date(d) => same_date(d, date_of(p)),
+        Value::Time(t) => byte_at(p, 0) < 2 && same_time(t, time_of(p)),
+        _ => same_bits(v, p),
     }
-}
-
-fn write_line(out: &mut [u8], staging: &[u8], st: PacketCodec, line: &[u8]) -> End {
-    let e = codec::encode(st, field(line, 0), out);
-    let put = e.put;
-    let next = e.next;
-    let right = sent_right(put, out, line) && left_right(line, 3, next, staging);
-    ended(next, right)
-}
-
-// Whether a read's status and bytes used are those wanted.
-fn said_right(line: &[u8], status: u8, used: usize) -> bool {
-    status == byte(field(line, 1), 0) && used == word(field(line, 2), 0)
-}
-
-// Whether a read's packet is the one wanted, status and bytes used too. Where there is no packet none is wanted.
-fn read_right(line: &[u8], got: Got, dst: &[u8]) -> bool {
-    match got {
-        Got::NeedMore(used) => said_right(line, 255, used) && field(line, 3).len() == 0,
-        Got::Packet(used, len) => {
-            said_right(line, 0, used)
-                && len == field(line, 3).len()
-                && check::same(part(dst, 0, len), field(line, 3))
-        }
-        Got::Refused(used, why) => {
-            said_right(line, refusal::number_of(why), used) && field(line, 3).len() == 0
-        }
-    }
-}
-
-fn read_line(staging: &mut [u8], dst: &mut [u8], st: PacketCodec, line: &[u8]) -> End {
-    let d = codec::decode(st, field(line, 0), staging, dst);
-    let got = d.got;
-    let next = d.next;
-    let right = read_right(line, got, dst) && left_right(line, 4, next, staging);
-    ended(next, right)
-}
-
-// Lends what the limit asks for.
-fn read_lent(staging: &mut [u8], dst: &mut [u8], st: PacketCodec, line: &[u8]) -> End {
-    let n = st.limit;
-    if dst.len() < n {
-        return ended(st, false);
-    }
-    if staging.len() / 2 < n + 2 {
-        return ended(st, false);
-    }
-    read_line(&mut staging[..2 * n + 4], &mut dst[..n], st, line)
 }
 
 // ---- a line
 
-// A line that writes, into a buffer as long as what is wanted.
-fn put_line(out: &mut [u8], staging: &[u8], st: PacketCodec, line: &[u8]) -> End {
-    match half(line, 0) {
-        0x05 => ended(st, int_put_right(out, line)),
-        0x06 => ended(st, value_put_right(out, line)),
-        0x07 => ended(st, quoted_right(out, line)),
-        _ => write_line(out, staging, st, line),
+// A line of the list: its operation and its fields.
+#[derive(Clone, Copy)]
+struct Line<'a> {
+    bytes: &'a [u8],
+}
+
+impl<'a> Line<'a> {
+    fn of(list: &'a [u8], k: usize) -> Self {
+        let places = tail(list, k.saturating_mul(4).saturating_add(4));
+        Line {
+            bytes: between(
+                list,
+                word_at(places, 0) as usize,
+                word_at(places, 4) as usize,
+            ),
+        }
+    }
+
+    fn operation(self) -> u16 {
+        half_at(self.bytes, 0)
+    }
+
+    fn field(self, j: usize) -> &'a [u8]
+        requires { j < 8 }
+    {
+        let from = half_at(self.bytes, 2 + 2 * j);
+        let to = half_at(self.bytes, 4 + 2 * j);
+        between(self.bytes, usize::from(from), usize::from(to))
+    }
+
+    fn byte(self, j: usize) -> u8
+        requires { j < 8 }
+    {
+        byte_at(self.field(j), 0)
+    }
+
+    fn word(self, j: usize) -> usize
+        requires { j < 8 }
+    {
+        word_at(self.field(j), 0) as usize
+    }
+
+    fn long(self, j: usize) -> u64
+        requires { j < 8 }
+    {
+        long_at(self.field(j), 0)
+    }
+
+    // Whether an answer is right by the status in field j: a refusal is the one wanted, and no answer stands beside it.
+    fn is_said<T: Drop, F: FnOnce(T) -> bool>(
+        self,
+        j: usize,
+        answer: Result<T, Refusal>,
+        is_right: F,
+    ) -> bool
+        requires field { j < 7 }
+        requires callable { F.IsAlwaysCallable is_right }
+    {
+        match answer {
+            Ok(value) => self.byte(j) == 0 && is_right(value),
+            Err(why) => self.byte(j) == number_of(why) && self.field(j + 1).is_empty(),
+        }
+    }
+
+    // Whether a value is the one that the four fields from j on want: status, kind, payload, next.
+    fn is_value(self, j: usize, answer: Result<Parsed<Value>, Refusal>) -> bool
+        requires { j < 5 }
+    {
+        let kind = self.byte(j + 1);
+        let payload = self.field(j + 2);
+        let next = self.word(j + 3);
+        self.is_said(j, answer, |got| {
+            got.next == next && kind_of(got.value) == kind && same_value(got.value, payload)
+        })
+    }
+
+    fn is_int(self) -> bool {
+        let wanted = Parsed {
+            value: self.long(3),
+            next: self.word(4),
+        };
+        let answer = wire::checked_eat_lenenc_int(self.field(0), self.word(1));
+        self.is_said(2, answer, |got| got == wanted)
+    }
+
+    fn is_str(self) -> bool {
+        let wanted = Text {
+            at: self.word(3),
+            len: self.word(4),
+        };
+        let answer = wire::checked_eat_lenenc_str(self.field(0), self.word(1));
+        self.is_said(2, answer, |got| got == wanted)
+    }
+
+    fn is_binary(self) -> bool {
+        let unsigned = self.byte(3) != 0;
+        let answer = value::deserialize_bin(self.field(0), self.word(1), self.byte(2), unsigned);
+        self.is_value(4, answer)
+    }
+
+    fn is_text(self) -> bool {
+        self.is_value(2, value::deserialize_text(self.field(0), self.word(1)))
+    }
+
+    // Whether a read's status, bytes used and packet are those wanted. Where there is no packet none is wanted.
+    fn is_read(self, read: Decoded<usize, PacketCodec>, packet: &[u8]) -> bool {
+        let wanted = self.field(3);
+        let (status, len) = match read.answer {
+            Ok(None) => (255, 0),
+            Ok(Some(n)) => (0, n),
+            Err(why) => (number_of(why), 0),
+        };
+        status == self.byte(1)
+            && read.used == self.word(2)
+            && len == wanted.len()
+            && part(packet, 0, len) == wanted
     }
 }
 
-fn put_lent(out: &mut [u8], n: usize, staging: &[u8], st: PacketCodec, line: &[u8]) -> End {
-    if out.len() < n {
-        return ended(st, false);
-    }
-    put_line(&mut out[..n], staging, st, line)
+// ---- the connection
+
+// Whether the bytes wanted were written, and fill the buffer.
+fn is_put(put: Result<usize, Refusal>, out: &[u8], wanted: &[u8]) -> bool {
+    put == Ok(wanted.len()) && out == wanted
 }
 
-// Whether a line that reads and has no connection is right.
-fn lone_right(out: &mut [u8], line: &[u8]) -> bool {
-    match half(line, 0) {
-        0x01 => int_right(line),
-        0x02 => str_right(line),
-        0x03 => bin_right(out, line),
-        0x04 => text_right(out, line),
-        _ => false,
-    }
+// The codec of the connection that was opened last, and the buffers that are lent: the last for any bytes that are written.
+#[derive(Drop)]
+struct Connection {
+    codec: PacketCodec,
+    staging: Vec<u8>,
+    packet: Vec<u8>,
+    out: Vec<u8>,
 }
 
-// A line that changes a connection, and neither reads nor writes.
-fn turn_line(staging: &[u8], st: PacketCodec, line: &[u8]) -> End {
-    match half(line, 0) {
-        0x10 => open_line(line),
-        0x11 => call_line(staging, codec::frames_on(st), line),
-        0x12 => call_line(staging, codec::reset_seq_id(st), line),
-        0x13 => call_line(staging, codec::sync_seq_id(st), line),
-        _ => ended(st, false),
-    }
-}
-
-// The field of a line that has the bytes wanted, or 0 for a line that doesn't write.
-fn wanted_field(op: usize) -> usize
-    ensures { result < 8 }
-{
-    match op {
-        0x05 => 1,
-        0x06 => 2,
-        0x07 => 2,
-        0x14 => 2,
-        _ => 0,
-    }
-}
-
-fn step(out: &mut [u8], staging: &mut [u8], dst: &mut [u8], st: PacketCodec, line: &[u8]) -> End {
-    let op = half(line, 0);
-    if op == 0x15 {
-        return read_lent(staging, dst, st, line);
-    }
-    let j = wanted_field(op);
-    if j != 0 {
-        return put_lent(out, field(line, j).len(), staging, st, line);
-    }
-    if op < 0x10 {
-        return ended(st, lone_right(out, line));
-    }
-    turn_line(staging, st, line)
-}
-
-fn say(what: &[u8], n: usize) {
-    io::write_all(STDOUT_FILENO, what);
-    io::print_decimal(STDOUT_FILENO, n as u64);
-    io::write_all(STDOUT_FILENO, b"\n");
-}
-
-// 1 for a line that is answered otherwise; says which if it is the first.
-fn differs(right: bool, before: usize, k: usize) -> usize
-    requires { k < 0x1_0000_0000 }
-    ensures { result ≤ 1 }
-{
-    if right {
-        return 0;
-    }
-    if before == 0 {
-        say(b"first difference: line ", k + 1);
-    }
-    1
-}
-
-// How many lines are answered otherwise.
-fn replay(
-    out: &mut [u8],
-    staging: &mut [u8],
-    dst: &mut [u8],
-    first: PacketCodec,
-    file: &[u8],
-    n: usize,
-) -> usize
-    requires { n < 0x1_0000_0000 }
-{
-    let mut st = first;
-    let mut count = 0;
-    let mut k = 0;
-    while k < n {
-        let r = step(out, staging, dst, st, line_at(file, k));
-        st = r.st;
-        count += differs(r.right, count, k);
-        k += 1;
-    }
-    count
-}
-
-// 1 for a line of an operation.
-fn is_op(line: &[u8], op: usize) -> usize
-    ensures { result ≤ 1 }
-{
-    if half(line, 0) == op { 1 } else { 0 }
-}
-
-fn count_op(file: &[u8], n: usize, op: usize) -> usize
-    requires { n < 0x1_0000_0000 }
-{
-    let mut count = 0;
-    let mut k = 0;
-    while k < n {
-        count += is_op(line_at(file, k), op);
-        k += 1;
-    }
-    count
-}
-
-fn say_op(what: &[u8], file: &[u8], op: usize) {
-    say(what, count_op(file, word(file, 0), op));
-}
-
-fn say_reads(file: &[u8]) {
-    say_op(b"  length-encoded integers read ", file, 0x01);
-    say_op(b"  length-encoded strings read ", file, 0x02);
-    say_op(b"  binary values read ", file, 0x03);
-    say_op(b"  text values read ", file, 0x04);
-}
-
-fn say_writes(file: &[u8]) {
-    say_op(b"  length-encoded integers written ", file, 0x05);
-    say_op(b"  values written ", file, 0x06);
-    say_op(b"  texts quoted ", file, 0x07);
-}
-
-fn say_connections(file: &[u8]) {
-    say_op(b"  connections opened ", file, 0x10);
-    say_op(b"  frames turned on ", file, 0x11);
-    say_op(b"  numbers reset ", file, 0x12);
-    say_op(b"  numbers synced ", file, 0x13);
-    say_op(b"  packets written ", file, 0x14);
-    say_op(b"  packet reads ", file, 0x15);
-}
-
-fn run(file: &[u8]) {
-    let n = word(file, 0);
-    say(b"lines ", n);
-    say_reads(file);
-    say_writes(file);
-    say_connections(file);
-    let mut out = [0u8; 4096];
-    let mut staging = [0u8; 4096];
-    let mut dst = [0u8; 2048];
+impl Connection {
     // Before the first connection the codec is a closed one: no line has the limit 0.
-    let first = open_line(b"").st;
-    let count = replay(&mut out, &mut staging, &mut dst, first, file, n);
-    say(b"differences ", count);
+    fn none(alloc: Global) -> Result<Self, AllocError> {
+        Ok(Connection {
+            codec: codec::opening(0).unwrap_or_else(|shut| shut.state),
+            staging: vec![in alloc; 0; 4096]?,
+            packet: vec![in alloc; 0; 2048]?,
+            out: vec![in alloc; 0; 4096]?,
+        })
+    }
+
+    fn opens(&mut self, limit: usize) -> bool {
+        let opened = codec::opening(limit);
+        let right = opened.is_ok();
+        self.codec = opened.unwrap_or_else(|shut| shut.state);
+        right
+    }
+
+    // Whether the number, the frame number and the unread bytes are those of the three fields from j on. A refused read ends its
+    // connection, and what is unread then is not compared.
+    fn is_left(&self, line: Line<'_>, j: usize) -> bool
+        requires { j < 6 }
+    {
+        self.codec.number == line.byte(j)
+            && self.codec.frame == line.byte(j + 1)
+            && (self.codec.closed || part(&self.staging, 0, self.codec.unread) == line.field(j + 2))
+    }
+
+    // A line that changes the codec, and neither reads nor writes.
+    fn becomes(&mut self, codec: PacketCodec, line: Line<'_>) -> bool {
+        self.codec = codec;
+        self.is_left(line, 0)
+    }
+
+    // Whether the bytes wanted are written into a buffer as long as they are.
+    fn writes<W: FnOnce(&mut [u8]) -> Result<usize, Refusal>>(
+        &mut self,
+        wanted: &[u8],
+        write: W,
+    ) -> bool
+        requires { W.IsAlwaysCallable write }
+    {
+        match self.out.as_mut_slice().get_mut(..wanted.len()) {
+            Some(out) => is_put(write(out), out, wanted),
+            None => false,
+        }
+    }
+
+    fn sends(&mut self, line: Line<'_>) -> bool {
+        let wanted = line.field(2);
+        let Some(out) = self.out.as_mut_slice().get_mut(..wanted.len()) else {
+            return false;
+        };
+        let sent = codec::encode(self.codec, line.field(0), out);
+        self.codec = sent.next;
+        line.is_said(1, sent.put, |n| is_put(Ok(n), out, wanted)) && self.is_left(line, 3)
+    }
+
+    // Lends what the limit asks for.
+    fn receives(&mut self, line: Line<'_>) -> bool {
+        let limit = self.codec.limit;
+        let Some(packet) = self.packet.as_mut_slice().get_mut(..limit) else {
+            return false;
+        };
+        let Some(staging) = self
+            .staging
+            .as_mut_slice()
+            .get_mut(..limit.saturating_mul(2).saturating_add(4))
+        else {
+            return false;
+        };
+        let read = codec::decode(self.codec, line.field(0), staging, packet);
+        self.codec = read.next;
+        line.is_read(read, packet) && self.is_left(line, 4)
+    }
+
+    // Whether a line is answered as it should be.
+    fn replays(&mut self, line: Line<'_>) -> bool {
+        match line.operation() {
+            0x01 => line.is_int(),
+            0x02 => line.is_str(),
+            0x03 => line.is_binary(),
+            0x04 => line.is_text(),
+            0x05 => {
+                let n = line.long(0);
+                self.writes(line.field(1), |out| wire::put_lenenc_int(out, 0, n))
+            }
+            0x06 => {
+                let payload = line.field(1);
+                let value = value_of(line.byte(0), payload);
+                self.writes(
+                    line.field(2),
+                    |out| value::serialize(out, 0, payload, value),
+                )
+            }
+            0x07 => {
+                let text = line.field(0);
+                let plain = line.byte(1) != 0;
+                self.writes(line.field(2), |out| escape::escaped(out, 0, text, plain))
+            }
+            0x10 => self.opens(line.word(0)),
+            0x11 => self.becomes(codec::frames_on(self.codec), line),
+            0x12 => self.becomes(codec::reset_seq_id(self.codec), line),
+            0x13 => self.becomes(codec::sync_seq_id(self.codec), line),
+            0x14 => self.sends(line),
+            0x15 => self.receives(line),
+            _ => false,
+        }
+    }
 }
 
-fn load(rt: &HostRuntime, buffer: &mut [u8]) -> std::io::Result<()> {
-    let mut input = File::open(rt, "answers")?;
-    let (size, ended) = files::read_full(&mut input, buffer);
-    ended?;
-    run(part(buffer, 0, size));
-    Ok(())
-}
-
-fn main(rt: HostRuntime) -> std::io::Result<()> {
-    let mut buffer = [0u8; 262144];
-    load(&rt, &mut buffer)
+fn main(rt: HostRuntime) -> io::Result<()> {
+    let list = read_front(&rt, "answers", LIST)?;
+    let n = word_at(&list, 0) as usize;
+    println!(rt; "lines {n}")?;
+    for (operation, what) in OPERATIONS {
+        let lines = (0..n)
+            .filter(|&k| Line::of(&list, k).operation() == operation)
+            .count();
+        println!(rt; "  {what} {lines}")?;
+    }
+    let mut connection = Connection::none(rt.alloc())?;
+    let mut differences = 0usize;
+    for k in 0..n {
+        if !connection.replays(Line::of(&list, k)) {
+            if differences == 0 {
+                println!(rt; "first difference: line {}", k + 1)?;
+            }
+            differences = differences.saturating_add(1);
+        }
+    }
+    println!(rt; "differences {differences}")
 }

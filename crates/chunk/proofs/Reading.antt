@@ -1,9 +1,9 @@
 -- The reader's steps, over plain lists and numbers.
+use Rattle.std.specs.Prelude.{Option}
 use Rattle.std.proofs.Common.{◌≡◌, ℕ, ◌+◌, ◌-◌, ◌≤◌, true, false, List, length, take, drop, sym, refl, ap, ◌∙◌, add_assoc, zero-add, arith, length-drop, take_all, drop-drop}
 use Rattle.wire.specs.Room.{patch}
 use Rattle.chunk.specs.Chunks.{largest}
 use Rattle.chunk.specs.declared.PlainPacketCodec.{PlainPacketCodec}
-use Rattle.chunk.specs.declared.Tolerance.{Tolerance}
 use Rattle.chunk.specs.Read.{Turned, later, turn_of, opened}
 use Rattle.chunk.specs.ReadLaws.{Uses, turn_uses, opened-stop, opened_more}
 
@@ -13,16 +13,16 @@ took_put taken len u b d' e = let n : len + 4 - 4 ≡ len = omega arith in e ∙
 
 -- ---- the loop: `at` bytes are used, and what is left to read gives what the whole call gives
 
-pub record Head (b₀ : List ℕ) (x : Tolerance) (src : List ℕ) (st₀ : PlainPacketCodec) (b : List ℕ) (at : ℕ) (st : PlainPacketCodec) : Type 0 where
+pub record Head (b₀ : List ℕ) (x : Option ℕ) (src : List ℕ) (st₀ : PlainPacketCodec) (b : List ℕ) (at : ℕ) (st : PlainPacketCodec) : Type 0 where
   pub within : at ≤ length src
   pub same : length b ≡ length b₀
   pub rest : later at (opened largest x st (drop at src) b) ≡ opened largest x st₀ src b₀
 
-pub head_first : (b : List ℕ) (x : Tolerance) (src : List ℕ) (st : PlainPacketCodec) → Head b x src st b 0 st
+pub head_first : (b : List ℕ) (x : Option ℕ) (src : List ℕ) (st : PlainPacketCodec) → Head b x src st b 0 st
 head_first b x src st = record { within = omega arith; same = refl; rest = simp zero-add }
 
 -- a turn on the part from `at` on, and what the buffer is then
-module _ (b₀ : List ℕ) (x : Tolerance) (src : List ℕ) (st₀ : PlainPacketCodec) (b : List ℕ) (at : ℕ) (st : PlainPacketCodec) (h : Head b₀ x src st₀ b at st)
+module _ (b₀ : List ℕ) (x : Option ℕ) (src : List ℕ) (st₀ : PlainPacketCodec) (b : List ℕ) (at : ℕ) (st : PlainPacketCodec) (h : Head b₀ x src st₀ b at st)
     (t : Turned) (e : t ≡ turn_of largest x st (take (length src - at) (drop at src)) b) where
   is : t ≡ turn_of largest x st (drop at src) b
   is = e ∙ ap (λ (u : List ℕ). turn_of largest x st u b) (take_all (length src - at) (drop at src) (rw length-drop (omega arith)))

@@ -1,10 +1,9 @@
 -- What a call leaves of the packet buffer: some bytes are put behind those that the packet had, and all else is as it was.
-use Rattle.std.specs.Prelude.{◌≡◌, ℕ, ◌+◌, ◌≤◌, Bool, true, false, List, [], ◌++◌, length, take, drop, ◌==◌, refl}
+use Rattle.std.specs.Prelude.{◌≡◌, ℕ, ◌+◌, ◌≤◌, Bool, true, false, List, [], ◌++◌, length, take, drop, ◌==◌, refl, Option}
 use Rattle.std.proofs.Common.{sym, ap, ◌∙◌, append_assoc, append-nil, add-zero, arith, length-append, length-drop, length-take, take-append-drop, take_at, drop_at}
 use Rattle.wire.specs.Room.{patch}
 use Rattle.wire.specs.RoomLaws.{patch-append, length-patch}
 use Rattle.chunk.specs.declared.PlainPacketCodec.{PlainPacketCodec}
-use Rattle.chunk.specs.declared.Tolerance.{Tolerance}
 use Rattle.chunk.specs.Read.{Answered, need_more, packet, refused, Done, Turned, stop, took, turn_of, opened, later, read}
 use Rattle.chunk.specs.ReadLaws.{by_test, took_more, took_last, Kept, turn_ends, opened-stop, opened_more, read-closed, read_open}
 use Rattle.chunk.specs.ResumeLaws.{by_turns}
@@ -62,7 +61,7 @@ took_keeps m st st' len num u b k h r =
       asks = λ e. absurd (let z : ◌≡◌ {A = ℕ} 0 1 = cc in omega arith);
     })
 
-turn_keeps : (m : ℕ) (x : Tolerance) (st : PlainPacketCodec) (u b : List ℕ) → Turns st b (turn_of m x st u b)
+turn_keeps : (m : ℕ) (x : Option ℕ) (st : PlainPacketCodec) (u b : List ℕ) → Turns st b (turn_of m x st u b)
 turn_keeps m x st u b =
     turn_ends (Turns st b) m x st u b
     (record {
@@ -78,7 +77,7 @@ turn_keeps m x st u b =
       asks = λ e. absurd (let z : ◌≡◌ {A = ℕ} 0 1 = cc in omega arith);
     }
 
-module _ (m : ℕ) (x : Tolerance) where
+module _ (m : ℕ) (x : Option ℕ) where
   abbrev Call : PlainPacketCodec → List ℕ → List ℕ → Type 0
   Call st u b = Keeps st b (opened m x st u b)
 

@@ -1,6 +1,10 @@
 -- Laws of reading: each case of a chunk, of a turn and of a call by itself, and how many bytes are used. No proof past these
 -- looks at the number of turns.
-use Rattle.std.specs.Prelude.{◌≡◌, ℕ, zero, suc, ◌+◌, ◌<◌, ◌≤◌, Bool, true, false, cond, List, [], length, get_or, take, drop, ◌==◌, ◌≢◌, nat_lt, refl}
+use Rattle.chunk.specs.declared.Decoded.{Decoded}
+use Rattle.chunk.specs.declared.Encoded.{Encoded}
+use Rattle.chunk.specs.declared.Shut.{Shut}
+use Rattle.refusal.specs.declared.Refusal.{Refusal}
+use Rattle.std.specs.Prelude.{◌≡◌, ℕ, zero, suc, ◌+◌, ◌<◌, ◌≤◌, Bool, true, false, cond, List, [], length, get_or, take, drop, ◌==◌, ◌≢◌, nat_lt, refl, Result, Ok, Err, Option, Some, None}
 use Rattle.std.proofs.Common.{sym, ap, ◌∙◌, arith, not-suc-le-zero, zero-add, length-drop}
 use Rattle.std.proofs.Math.Decide.{dec_le}
 use borrow.Author.Tests.{ltb-false, lt-ltb, le-ltb, eq-eqb, ne_eqb}
@@ -8,11 +12,8 @@ use Rattle.refusal.specs.Number.{number_same}
 use Rattle.wire.specs.Le.{le_at}
 use Rattle.wire.specs.Room.{patch}
 use Rattle.chunk.specs.declared.PlainPacketCodec.{PlainPacketCodec}
-use Rattle.chunk.specs.declared.Tolerance.{Tolerance}
-use Rattle.chunk.specs.declared.Answer.{Answer}
-use Rattle.chunk.specs.declared.Answer.TheVariants as A
 use Rattle.chunk.specs.Chunks.{next}
-use Rattle.chunk.specs.Read.{idle, closed, holding, past, Held, none, held, held_of, need_more, packet, refused, answer_said, Done}
+use Rattle.chunk.specs.Read.{idle, closed, holding, past, Held, none, held, held_of, need_more, packet, refused, answer_said, Done, opened_said}
 use Rattle.chunk.specs.Read.{Turned, stop, took, accepted, chunk_at, headed, turn_from, turn_of, later, turns, opened, read}
 
 -- ---- one chunk
@@ -39,7 +40,7 @@ module _ (m : ℕ) (st : PlainPacketCodec) (len num : ℕ) (u b : List ℕ) wher
   unfolding took
   took_last_lem e = rw (ne_eqb len m e)
 
-module _ (m : ℕ) (x : Tolerance) (st : PlainPacketCodec) (len num : ℕ) (u b : List ℕ) where
+module _ (m : ℕ) (x : Option ℕ) (st : PlainPacketCodec) (len num : ℕ) (u b : List ℕ) where
   pub chunk-short : length u < len + 4 → chunk_at m x st len num u b ≡ stop need_more st b
   unfolding chunk_at
   chunk-short h = rw (lt-ltb _ _ h)
@@ -70,7 +71,7 @@ module _ (m : ℕ) (x : Tolerance) (st : PlainPacketCodec) (len num : ℕ) (u b 
     unfolding headed
     headed_held h = rw (ne_eqb _ _ e, le-ltb _ _ h)
 
-module _ (m : ℕ) (x : Tolerance) (st : PlainPacketCodec) (u b : List ℕ) where
+module _ (m : ℕ) (x : Option ℕ) (st : PlainPacketCodec) (u b : List ℕ) where
   pub turn_short : held_of st ≡ none → length u < 4 → turn_of m x st u b ≡ stop need_more st b
   unfolding turn_of turn_from
   turn_short e h = rw (e, lt-ltb _ _ h)
@@ -89,7 +90,7 @@ unfolding took
 held_took m st l n len num u b = refl
 
 -- a state that remembers no header takes a whole chunk with an accepted number, where it fits
-pub turn_takes : (m : ℕ) (x : Tolerance) (st : PlainPacketCodec) (u b : List ℕ) → held_of st ≡ none → le_at u 0 3 + 4 ≤ length u
+pub turn_takes : (m : ℕ) (x : Option ℕ) (st : PlainPacketCodec) (u b : List ℕ) → held_of st ≡ none → le_at u 0 3 + 4 ≤ length u
     → accepted x st.number (get_or u 3 0) ≡ true → st.taken + le_at u 0 3 ≤ st.limit → st.taken + le_at u 0 3 ≤ length b
     → turn_of m x st u b ≡ took m st (le_at u 0 3) (get_or u 3 0) u b
 turn_takes m x st u b e h a lim room =
@@ -124,7 +125,7 @@ pub record Ends (P : Turned → Type 0) (m : ℕ) (st : PlainPacketCodec) (u b :
   pub refuses : (k : ℕ) (st' : PlainPacketCodec) → st'.taken ≡ st.taken → P (stop (refused k) st' b)
   pub takes : (st' : PlainPacketCodec) → Kept st st' → (len num : ℕ) → len + 4 ≤ length u → st'.taken + len ≤ length b → P (took m st' len num u b)
 
-module _ (P : Turned → Type 0) (m : ℕ) (x : Tolerance) (st : PlainPacketCodec) (u b : List ℕ) (h : Ends P m st u b) where
+module _ (P : Turned → Type 0) (m : ℕ) (x : Option ℕ) (st : PlainPacketCodec) (u b : List ℕ) (h : Ends P m st u b) where
   chunk-ends : (st' : PlainPacketCodec) → Kept st st' → (len num : ℕ) → P (chunk_at m x st' len num u b)
   unfolding chunk_at
   chunk-ends st' k len num =
@@ -158,7 +159,7 @@ took_uses m st len num u b h =
     (λ _. record { most = h; least = λ _. omega arith })
     (λ _. record { most = h; least = λ _. omega arith })
 
-pub turn_uses : (m : ℕ) (x : Tolerance) (st : PlainPacketCodec) (u b : List ℕ) → Uses u (turn_of m x st u b)
+pub turn_uses : (m : ℕ) (x : Option ℕ) (st : PlainPacketCodec) (u b : List ℕ) → Uses u (turn_of m x st u b)
 turn_uses m x st u b =
     turn_ends (Uses u) m x st u b
     (record {
@@ -170,7 +171,7 @@ turn_uses m x st u b =
 -- ---- a call: its first turn, and the rest
 
 -- any count above the length gives the same
-same : (f g m : ℕ) (x : Tolerance) (st : PlainPacketCodec) (u b : List ℕ) → length u < f → length u < g → turns f m x st u b ≡ turns g m x st u b
+same : (f g m : ℕ) (x : Option ℕ) (st : PlainPacketCodec) (u b : List ℕ) → length u < f → length u < g → turns f m x st u b ≡ turns g m x st u b
 unfolding turns
 same zero g m x st u b hf hg = absurd (not-suc-le-zero hf)
 same (suc f) zero m x st u b hf hg = absurd (not-suc-le-zero hg)
@@ -186,12 +187,12 @@ same (suc f) (suc g) m x st u b hf hg =
       | false ↦ λ e. refl
     ] refl
 
-pub opened-stop : (m : ℕ) (x : Tolerance) (st : PlainPacketCodec) (u b : List ℕ) → (turn_of m x st u b).more ≡ false
+pub opened-stop : (m : ℕ) (x : Option ℕ) (st : PlainPacketCodec) (u b : List ℕ) → (turn_of m x st u b).more ≡ false
     → opened m x st u b ≡ (turn_of m x st u b).done
 unfolding opened turns
 opened-stop m x st u b e = rw e
 
-pub opened_more : (m : ℕ) (x : Tolerance) (st : PlainPacketCodec) (u b : List ℕ) → (turn_of m x st u b).more ≡ true
+pub opened_more : (m : ℕ) (x : Option ℕ) (st : PlainPacketCodec) (u b : List ℕ) → (turn_of m x st u b).more ≡ true
     → opened m x st u b
     ≡ later (turn_of m x st u b).done.used
     (opened m x (turn_of m x st u b).done.next (drop (turn_of m x st u b).done.used u) (turn_of m x st u b).done.buf)
@@ -205,12 +206,12 @@ opened_more m x st u b e =
     (rw length-drop (omega (arith, w.least e, w.most))) (omega arith)))
 
 -- a call is its first turn's
-pub opened_as : (m : ℕ) (x : Tolerance) (st st' : PlainPacketCodec) (u b b' : List ℕ) → turn_of m x st u b ≡ turn_of m x st' u b'
+pub opened_as : (m : ℕ) (x : Option ℕ) (st st' : PlainPacketCodec) (u b b' : List ℕ) → turn_of m x st u b ≡ turn_of m x st' u b'
     → opened m x st u b ≡ opened m x st' u b'
 unfolding opened turns
 opened_as m x st st' u b b' e = rw e
 
-module _ (m : ℕ) (x : Tolerance) (st : PlainPacketCodec) (u b : List ℕ) where
+module _ (m : ℕ) (x : Option ℕ) (st : PlainPacketCodec) (u b : List ℕ) where
   pub read-closed : st.closed ≡ true → read m x st u b ≡ record { answer = refused 7; used = 0; next = st; buf = b }
   unfolding read
   read-closed e = rw e
@@ -220,7 +221,7 @@ module _ (m : ℕ) (x : Tolerance) (st : PlainPacketCodec) (u b : List ℕ) wher
   read_open e = rw e
 
 -- the common call: an open state that has begun nothing, and a whole packet of one chunk at the front
-pub read_whole : (m : ℕ) (x : Tolerance) (limit k : ℕ) (u b : List ℕ) → le_at u 0 3 + 4 ≤ length u → accepted x k (get_or u 3 0) ≡ true → le_at u 0 3 ≤ limit
+pub read_whole : (m : ℕ) (x : Option ℕ) (limit k : ℕ) (u b : List ℕ) → le_at u 0 3 + 4 ≤ length u → accepted x k (get_or u 3 0) ≡ true → le_at u 0 3 ≤ limit
     → le_at u 0 3 ≤ length b → (le_at u 0 3 ≢ m) → read m x (idle limit k) u b
     ≡ record { answer = packet (le_at u 0 3); used = le_at u 0 3 + 4; next = idle limit (next (get_or u 3 0)); buf = patch b 0 (take (le_at u 0 3) (drop 4 u)) }
 read_whole m x limit k u b h e lim room last =
@@ -231,7 +232,7 @@ read_whole m x limit k u b h e lim room last =
 
 -- ---- a call uses no more bytes than there are
 
-turns_use : (f m : ℕ) (x : Tolerance) (st : PlainPacketCodec) (u b : List ℕ) → (turns f m x st u b).used ≤ length u
+turns_use : (f m : ℕ) (x : Option ℕ) (st : PlainPacketCodec) (u b : List ℕ) → (turns f m x st u b).used ≤ length u
 unfolding turns
 turns_use zero m x st u b = omega arith
 turns_use (suc f) m x st u b =
@@ -243,7 +244,7 @@ turns_use (suc f) m x st u b =
     (λ _. omega (arith, rw length-drop at i, w.most))
     (λ _. w.most)
 
-pub read_uses : (m : ℕ) (x : Tolerance) (st : PlainPacketCodec) (u b : List ℕ) → (read m x st u b).used ≤ length u
+pub read_uses : (m : ℕ) (x : Option ℕ) (st : PlainPacketCodec) (u b : List ℕ) → (read m x st u b).used ≤ length u
 unfolding read opened
 read_uses m x st u b =
     by_test (λ (d : Done). d.used ≤ length u) st.closed (record { answer = refused 7; used = 0; next = st; buf = b }) (turns (suc (length u)) m x st u b)
@@ -252,22 +253,42 @@ read_uses m x st u b =
 
 -- ---- of no bytes a call wants more, and changes nothing
 
-none_from : (m : ℕ) (x : Tolerance) (st : PlainPacketCodec) (h : Held) (b : List ℕ) → held_of st ≡ h → turn_of m x st [] b ≡ stop need_more st b
+none_from : (m : ℕ) (x : Option ℕ) (st : PlainPacketCodec) (h : Held) (b : List ℕ) → held_of st ≡ h → turn_of m x st [] b ≡ stop need_more st b
 none_from m x st none b e = turn_short m x st [] b e (omega arith)
 none_from m x st (held len num) b e = turn_held m x st [] b len num e ∙ chunk-short m x st len num [] b (omega arith)
 
-pub opened_none : (m : ℕ) (x : Tolerance) (st : PlainPacketCodec) (b : List ℕ) → opened m x st [] b ≡ record { answer = need_more; used = 0; next = st; buf = b }
+pub opened_none : (m : ℕ) (x : Option ℕ) (st : PlainPacketCodec) (b : List ℕ) → opened m x st [] b ≡ record { answer = need_more; used = 0; next = st; buf = b }
 opened_none m x st b = let e = none_from m x st (held_of st) b refl in opened-stop m x st [] b (rw e) ∙ rw e
 
 -- ---- what an answer says determines it
 
-pub answer_same : (a a' : Answer) → answer_said a ≡ answer_said a' → a ≡ a'
-answer_same A.NeedMore A.NeedMore e = refl
-answer_same A.NeedMore (A.Packet n) e = cc e
-answer_same A.NeedMore (A.Refused r) e = cc e
-answer_same (A.Packet n) A.NeedMore e = cc e
-answer_same (A.Packet n) (A.Packet n') e = ap A.Packet (cc e)
-answer_same (A.Packet n) (A.Refused r) e = cc e
-answer_same (A.Refused r) A.NeedMore e = cc e
-answer_same (A.Refused r) (A.Packet n) e = cc e
-answer_same (A.Refused r) (A.Refused r') e = ap A.Refused (number_same r r' (cc e))
+pub answer_same : (a a' : Result (Option ℕ) Refusal) → answer_said a ≡ answer_said a' → a ≡ a'
+answer_same (Ok None) (Ok None) e = refl
+answer_same (Ok None) (Ok (Some n)) e = cc e
+answer_same (Ok None) (Err r) e = cc e
+answer_same (Ok (Some n)) (Ok None) e = cc e
+answer_same (Ok (Some n)) (Ok (Some n')) e = ap (λ (k : ℕ). Ok (Some k)) (cc e)
+answer_same (Ok (Some n)) (Err r) e = cc e
+answer_same (Err r) (Ok None) e = cc e
+answer_same (Err r) (Ok (Some n)) e = cc e
+answer_same (Err r) (Err r') e = ap Err (number_same r r' (cc e))
+
+shut_same : {S : Type 0} {r r' : Refusal} {st st' : S} → r ≡ r' → st ≡ st'
+    → ◌≡◌ {A = Shut S} (record { why = r; state = st }) (record { why = r'; state = st' })
+shut_same e f = rw (e, f)
+
+pub opened_same : {S : Type 0} (o o' : Result S (Shut S)) → opened_said o ≡ opened_said o' → o ≡ o'
+opened_same (Ok st) (Ok st') e = ap Ok (cc e)
+opened_same (Ok st) (Err x) e = cc e
+opened_same (Err x) (Ok st) e = cc e
+opened_same (Err x) (Err x') e = ap Err (shut_same (number_same x.why x'.why (cc e)) (cc e))
+
+-- ---- what the code's answers are made of determines them
+
+pub decoded_same : {P S : Type 0} {a a' : Result (Option P) Refusal} {n n' : ℕ} {st st' : S} → a ≡ a' → n ≡ n' → st ≡ st'
+    → ◌≡◌ {A = Decoded P S} (record { answer = a; used = n; next = st }) (record { answer = a'; used = n'; next = st' })
+decoded_same e f g = rw (e, f, g)
+
+pub encoded_same : {S : Type 0} {p p' : Result ℕ Refusal} {st st' : S} → p ≡ p' → st ≡ st'
+    → ◌≡◌ {A = Encoded S} (record { put = p; next = st }) (record { put = p'; next = st' })
+encoded_same e f = rw (e, f)

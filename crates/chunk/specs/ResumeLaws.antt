@@ -1,14 +1,13 @@
 -- Reading in parts: a call that asks for more has taken every chunk that was there, and the call after it, on what was left and
 -- what came then, answers what one call on all the bytes would have. A call that does not ask for more answers the same with
 -- more behind.
-use Rattle.std.specs.Prelude.{◌≡◌, ℕ, zero, suc, ◌+◌, ◌<◌, ◌≤◌, Bool, true, false, List, ◌++◌, length, drop, ◌==◌, ◌≢◌, nat_lt, slice_index, refl}
+use Rattle.std.specs.Prelude.{◌≡◌, ℕ, zero, suc, ◌+◌, ◌<◌, ◌≤◌, Bool, true, false, List, ◌++◌, length, drop, ◌==◌, ◌≢◌, nat_lt, slice_index, refl, Option}
 use Rattle.std.proofs.Common.{sym, ap, ◌∙◌, add_assoc, zero-add, not-suc-le-zero, arith, length-append, length-drop, drop-drop, le-ltb}
 use Rattle.std.proofs.Math.Decide.{dec_le}
 use Rattle.std.proofs.Math.ListN.{get_or-append}
 use Rattle.std.proofs.lemmas.List.{take-append-le, drop-append-le}
 use Rattle.wire.specs.Le.{le_of, le_at}
 use Rattle.chunk.specs.declared.PlainPacketCodec.{PlainPacketCodec}
-use Rattle.chunk.specs.declared.Tolerance.{Tolerance}
 use Rattle.chunk.specs.Read.{closed, holding, Held, none, held, held_of, Answered, need_more, packet, refused, Done, Turned, accepted, stop, took}
 use Rattle.chunk.specs.Read.{chunk_at, headed, turn_of, opened, later, read}
 use Rattle.chunk.specs.ReadLaws.{by_test, took_more, took_last, Kept, turn_ends, headed_empty, headed_large, headed_held, chunk-short, turn_short}
@@ -21,7 +20,7 @@ wanted (held len num) u = len + 4
 
 -- ---- a chunk that is there
 
-chunk_grows : (m : ℕ) (x : Tolerance) (st : PlainPacketCodec) (len num : ℕ) (u v b : List ℕ) → len + 4 ≤ length u
+chunk_grows : (m : ℕ) (x : Option ℕ) (st : PlainPacketCodec) (len num : ℕ) (u v b : List ℕ) → len + 4 ≤ length u
     → chunk_at m x st len num (u ++ v) b ≡ chunk_at m x st len num u b
 unfolding chunk_at took
 chunk_grows m x st len num u v b h =
@@ -44,7 +43,7 @@ took_says m st len num u b =
     (λ _ e a. let z : ◌≡◌ {A = ℕ} 0 1 = cc in omega arith)
     (λ _ e a. let z : ◌≡◌ {A = ℕ} 0 1 = cc in omega arith)
 
-chunk_says : (m : ℕ) (x : Tolerance) (st : PlainPacketCodec) (len num : ℕ) (u b : List ℕ) → len + 4 ≤ length u → Says (chunk_at m x st len num u b)
+chunk_says : (m : ℕ) (x : Option ℕ) (st : PlainPacketCodec) (len num : ℕ) (u b : List ℕ) → len + 4 ≤ length u → Says (chunk_at m x st len num u b)
 unfolding chunk_at
 chunk_says m x st len num u b h =
     rw (le-ltb _ _ h)
@@ -55,7 +54,7 @@ chunk_says m x st len num u b h =
 
 -- ---- a turn, with more behind
 
-record Grown (m : ℕ) (x : Tolerance) (st : PlainPacketCodec) (u v b : List ℕ) (t : Turned) : Type 0 where
+record Grown (m : ℕ) (x : Option ℕ) (st : PlainPacketCodec) (u v b : List ℕ) (t : Turned) : Type 0 where
   pub goes : t.more ≡ true → turn_of m x st (u ++ v) b ≡ t
   pub fixed : (t.done.answer ≢ need_more) → turn_of m x st (u ++ v) b ≡ t
   pub none : t.more ≡ false → t.done.answer ≡ need_more → t.done.used ≡ 0
@@ -63,7 +62,7 @@ record Grown (m : ℕ) (x : Tolerance) (st : PlainPacketCodec) (u v b : List ℕ
   pub next : t.more ≡ false → t.done.answer ≡ need_more → turn_of m x st (u ++ v) b ≡ turn_of m x t.done.next (u ++ v) b
   pub short : t.more ≡ false → t.done.answer ≡ need_more → (length u < wanted (held_of t.done.next) u) × (length u < wanted (held_of st) u)
 
-module _ (m : ℕ) (x : Tolerance) (u v b : List ℕ) where
+module _ (m : ℕ) (x : Option ℕ) (u v b : List ℕ) where
   -- it wants bytes, and the state that it leaves reads on as the one before
   wants_grown : (st st' : PlainPacketCodec) → (length u < wanted (held_of st') u) × (length u < wanted (held_of st) u) → turn_of m x st (u ++ v) b
       ≡ turn_of m x st' (u ++ v) b
@@ -155,7 +154,7 @@ unfolding took
 took_live m st st' len num u b k =
     by_test (Live st) (len == m) (took_more st' len num u b) (took_last st' len num u b) (λ _ a. k.1) (λ _ a. k.1)
 
-turn_live : (m : ℕ) (x : Tolerance) (st : PlainPacketCodec) (u b : List ℕ) → Live st (turn_of m x st u b)
+turn_live : (m : ℕ) (x : Option ℕ) (st : PlainPacketCodec) (u b : List ℕ) → Live st (turn_of m x st u b)
 turn_live m x st u b =
     turn_ends (Live st) m x st u b
     (record {
@@ -173,7 +172,7 @@ unfolding took
 took-asks m st len num u b =
     by_test Asks (len == m) (took_more st len num u b) (took_last st len num u b) (λ _ e. refl) (λ _ e. absurd (let z : ◌≡◌ {A = ℕ} 0 1 = cc in omega arith))
 
-turn_asks : (m : ℕ) (x : Tolerance) (st : PlainPacketCodec) (u b : List ℕ) → Asks (turn_of m x st u b)
+turn_asks : (m : ℕ) (x : Option ℕ) (st : PlainPacketCodec) (u b : List ℕ) → Asks (turn_of m x st u b)
 turn_asks m x st u b =
     turn_ends Asks m x st u b
     (record {
@@ -184,7 +183,7 @@ turn_asks m x st u b =
 
 -- ---- a call, by its turns: each that asks for another leaves fewer bytes
 
-pub by_turns : (P : PlainPacketCodec → List ℕ → List ℕ → Type 0) (m : ℕ) (x : Tolerance)
+pub by_turns : (P : PlainPacketCodec → List ℕ → List ℕ → Type 0) (m : ℕ) (x : Option ℕ)
     → ((st : PlainPacketCodec) (u b : List ℕ) → (turn_of m x st u b).more ≡ false → P st u b)
     → ((st : PlainPacketCodec) (u b : List ℕ) → (turn_of m x st u b).more ≡ true
     → P (turn_of m x st u b).done.next (drop (turn_of m x st u b).done.used u) (turn_of m x st u b).done.buf → P st u b)
@@ -203,10 +202,10 @@ by_turns P m x last more st u b = go (suc (length u)) st u b (omega arith)
         ] refl
 
 -- what a call on u and then v answers, from what a call on u left
-abbrev pub then_on : ℕ → Tolerance → List ℕ → List ℕ → Done → Done
+abbrev pub then_on : ℕ → Option ℕ → List ℕ → List ℕ → Done → Done
 then_on m x u v d = later d.used (opened m x d.next (drop d.used u ++ v) d.buf)
 
-module _ (m : ℕ) (x : Tolerance) (v : List ℕ) where
+module _ (m : ℕ) (x : Option ℕ) (v : List ℕ) where
   abbrev Goes : PlainPacketCodec → List ℕ → List ℕ → Type 0
   Goes st u b = (opened m x st u b).answer ≡ need_more → opened m x st (u ++ v) b ≡ then_on m x u v (opened m x st u b)
 
@@ -250,7 +249,7 @@ module _ (m : ℕ) (x : Tolerance) (v : List ℕ) where
 
 -- ---- a call that asks for more leaves an open state open, and no whole chunk unread
 
-module _ (m : ℕ) (x : Tolerance) where
+module _ (m : ℕ) (x : Option ℕ) where
   abbrev Ready : PlainPacketCodec → List ℕ → List ℕ → Type 0
   Ready st u b = (opened m x st u b).answer ≡ need_more
       → ((opened m x st u b).next.closed ≡ st.closed)
@@ -275,7 +274,7 @@ module _ (m : ℕ) (x : Tolerance) where
 
 -- ---- the same of whole calls, closed states included
 
-module _ (m : ℕ) (x : Tolerance) (st : PlainPacketCodec) (u v b : List ℕ) where
+module _ (m : ℕ) (x : Option ℕ) (st : PlainPacketCodec) (u v b : List ℕ) where
   -- a closed state does not ask for more
   shut : {A : Type 0} → st.closed ≡ true → (read m x st u b).answer ≡ need_more → A
   shut c a = let a' : refused 7 ≡ need_more = rw (read-closed m x st u b c) at a in absurd (let z : ◌≡◌ {A = ℕ} 0 1 = cc in omega arith)
@@ -309,7 +308,7 @@ module _ (m : ℕ) (x : Tolerance) (st : PlainPacketCodec) (u v b : List ℕ) wh
 
 -- ---- "A call lent a whole chunk never says need more before taking it or refusing"
 
-module _ (m : ℕ) (x : Tolerance) (st : PlainPacketCodec) (u b : List ℕ) where
+module _ (m : ℕ) (x : Option ℕ) (st : PlainPacketCodec) (u b : List ℕ) where
   -- one turn on a whole chunk: it does not stop for want of bytes
   pub turn_never_waits : wanted (held_of st) u ≤ length u → (turn_of m x st u b).more ≡ false → (turn_of m x st u b).done.answer ≢ need_more
   turn_never_waits h e a = let w = ((grown m x u u b st).short e a).1 in omega (arith, w)

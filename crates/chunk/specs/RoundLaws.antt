@@ -1,6 +1,6 @@
 -- What was written is read: the chunks of a packet, read with room and within the limit, give the packet. Over any piece size
 -- of 1 to M, any tolerance, and whatever stands behind the chunks.
-use Rattle.std.specs.Prelude.{◌≡◌, ℕ, zero, suc, ◌+◌, ◌-◌, ◌<◌, ◌≤◌, true, false, List, ◌++◌, length, take, drop, slice_index, refl}
+use Rattle.std.specs.Prelude.{◌≡◌, ℕ, zero, suc, ◌+◌, ◌-◌, ◌<◌, ◌≤◌, true, false, List, ◌++◌, length, take, drop, slice_index, refl, Option, Some, None}
 use Rattle.std.proofs.Common.{sym, ap, ◌∙◌, append_assoc, zero-add, arith, length-append, length-drop, length-take, take-append-drop, take_at, drop_at, eq-eqb}
 use Rattle.std.proofs.Math.Decide.{dec_le}
 use Rattle.std.proofs.Math.Seq.{take-append_seam}
@@ -12,8 +12,6 @@ use Rattle.wire.specs.RoomLaws.{patch-append, length-patch}
 use Rattle.chunk.specs.Chunks.{largest, next, chunk, chunks, needed, after}
 use Rattle.chunk.specs.ChunksLaws.{chunks_last, chunks_more, needed_last, needed_more, after_last, after_more, length-chunk, length-chunks}
 use Rattle.chunk.specs.declared.PlainPacketCodec.{PlainPacketCodec}
-use Rattle.chunk.specs.declared.Tolerance.{Tolerance}
-use Rattle.chunk.specs.declared.Tolerance.TheVariants.{Strict, Also}
 use Rattle.chunk.specs.Read.{idle, past, renumbered, none, held_of, packet, Done, accepted, took, turn_of, opened, read}
 use Rattle.chunk.specs.ReadLaws.{took_more, took_last, took_more_lem, took_last_lem, turn_takes, opened-stop, opened_more, read_open}
 use Rattle.chunk.specs.Write.{write}
@@ -35,12 +33,12 @@ unfolding chunk le_bytes
 payload k q r = take-append_seam q r
 
 -- the expected number is accepted
-pub expected : (x : Tolerance) (k : ℕ) → accepted x k k ≡ true
-expected Strict k = eq-eqb k k refl
-expected (Also y) k = rw (eq-eqb k k refl)
+pub expected : (x : Option ℕ) (k : ℕ) → accepted x k k ≡ true
+expected None k = eq-eqb k k refl
+expected (Some y) k = rw (eq-eqb k k refl)
 
 -- a reader that remembers no header takes a chunk with the expected number, whatever follows
-pub turn_chunk : (m : ℕ) (x : Tolerance) (st : PlainPacketCodec) (q r b : List ℕ) → held_of st ≡ none → length q ≤ largest
+pub turn_chunk : (m : ℕ) (x : Option ℕ) (st : PlainPacketCodec) (q r b : List ℕ) → held_of st ≡ none → length q ≤ largest
     → st.taken + length q ≤ st.limit → st.taken + length q ≤ length b
     → turn_of m x st (chunk st.number q ++ r) b ≡ took m st (length q) st.number (chunk st.number q ++ r) b
 turn_chunk m x st q r b e l lim room =
@@ -61,7 +59,7 @@ whole m st p b = record {
   buf = patch b st.taken p;
 }
 
-module _ (m : ℕ) (x : Tolerance) (pos : 0 < m) (fits : m ≤ largest) (st : PlainPacketCodec) (p r b : List ℕ)
+module _ (m : ℕ) (x : Option ℕ) (pos : 0 < m) (fits : m ≤ largest) (st : PlainPacketCodec) (p r b : List ℕ)
     (free : held_of st ≡ none) (lim : st.taken + length p ≤ st.limit) (room : st.taken + length p ≤ length b) where
   abbrev k : ℕ
   k = st.number
@@ -117,7 +115,7 @@ module _ (m : ℕ) (x : Tolerance) (pos : 0 < m) (fits : m ≤ largest) (st : Pl
         n,
       )
 
-round : (f m : ℕ) (x : Tolerance) → 0 < m → m ≤ largest → (st : PlainPacketCodec) (p r b : List ℕ) → length p ≤ f → held_of st ≡ none
+round : (f m : ℕ) (x : Option ℕ) → 0 < m → m ≤ largest → (st : PlainPacketCodec) (p r b : List ℕ) → length p ≤ f → held_of st ≡ none
     → st.taken + length p ≤ st.limit → st.taken + length p ≤ length b → opened m x st (chunks m st.number p ++ r) b ≡ whole m st p b
 round zero m x pos fits st p r b h free lim room = last m x pos fits st p r b free lim room (omega arith)
 round (suc f) m x pos fits st p r b h free lim room =
@@ -131,14 +129,14 @@ round (suc f) m x pos fits st p r b h free lim room =
       | no g ↦ last m x pos fits st p r b free lim room (omega arith)
     ]
 
-pub opened-chunks : (m : ℕ) (x : Tolerance) → 0 < m → m ≤ largest → (st : PlainPacketCodec) (p r b : List ℕ) → held_of st ≡ none
+pub opened-chunks : (m : ℕ) (x : Option ℕ) → 0 < m → m ≤ largest → (st : PlainPacketCodec) (p r b : List ℕ) → held_of st ≡ none
     → st.taken + length p ≤ st.limit → st.taken + length p ≤ length b → opened m x st (chunks m st.number p ++ r) b ≡ whole m st p b
 opened-chunks m x pos fits st p r b free lim room = round (length p) m x pos fits st p r b (omega arith) free lim room
 
 -- ---- both ends: a packet that is written is read by an idle reader that expects the writer's number. It comes back, all its
 -- bytes are used, and the reader is idle again and expects the number that the writer has then
 
-module _ (m : ℕ) (x : Tolerance) (pos : 0 < m) (fits : m ≤ largest) (w : PlainPacketCodec) (limit : ℕ) (p d v b : List ℕ)
+module _ (m : ℕ) (x : Option ℕ) (pos : 0 < m) (fits : m ≤ largest) (w : PlainPacketCodec) (limit : ℕ) (p d v b : List ℕ)
     (live : w.closed ≡ false) (small : length p ≤ w.limit) (space : needed m (length p) ≤ length d)
     (lim : length p ≤ limit) (room : length p ≤ length b) where
   abbrev pub wrote : List ℕ

@@ -1,7 +1,7 @@
 -- Writing a packet, by 01's "Plain chunks", over a piece size m.
 use Rattle.std.specs.Prelude.{ℕ, cond, List, length, nat_lt}
-use Rattle.refusal.specs.Said.{Said, gives, refused}
-use Rattle.wire.specs.Room.{patch, put_said}
+use Rattle.refusal.specs.Said.{Said, gives, refused, said_of}
+use Rattle.wire.specs.Room.{patch}
 use Rattle.chunk.specs.Chunks.{chunks, needed, after}
 use Rattle.chunk.specs.Read.{renumbered}
 use Rattle.chunk.specs.declared.PlainPacketCodec.{PlainPacketCodec}
@@ -30,5 +30,5 @@ write m st p d =
     })))
 
 -- what the code's answer says, with the buffer at its exit
-abbrev pub sent_of : Encoded → List ℕ → Sent
-sent_of r d = record { said = put_said r.put; next = r.next; buf = d }
+abbrev pub sent_of : Encoded PlainPacketCodec → List ℕ → Sent
+sent_of r d = record { said = said_of r.put; next = r.next; buf = d }

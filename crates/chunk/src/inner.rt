@@ -10,16 +10,11 @@ use crate::writer::put_chunk;
 pub fn exceeds(a: usize, b: usize, most: usize) -> bool
     ensures { result ≡ nat_lt most (a + b) }
 {
-    if most < a {
-        return true;
-    }
-    if most - a < b {
-        return true;
-    }
-    false
+    most < a || most - a < b
 }
 
 // How many bytes the chunks of a packet of n bytes are. No slice is longer than half of what a usize holds, so nothing wraps.
+#[tactic(auto, unfolding(crate::specs::Chunks::needed))]
 pub fn chunks_len(n: usize) -> usize
     requires { n < 0x8000_0000_0000_0000 }
     ensures { result ≡ needed largest n }
@@ -41,8 +36,8 @@ pub fn put_chunks(dst: &mut [u8], from: usize, first: u8, packet: &[u8]) -> u8
         put_chunk(dst, out, number, &packet[at..end]);
         at = end;
         out += MAX_PAYLOAD_LEN + 4;
-        number = std::num::wrapping_add_u8(number, 1);
+        number = number.wrapping_add(1);
     }
     put_chunk(dst, out, number, &packet[at..]);
-    std::num::wrapping_add_u8(number, 1)
+    number.wrapping_add(1)
 }

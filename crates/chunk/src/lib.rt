@@ -7,16 +7,14 @@
 // `packet_to_chunks` writes a packet's chunks to the front of a lent buffer. One number serves both ways.
 #![tactic(auto)]
 
-ghost use Rattle.std.specs.Prelude.{◌≡◌};
+ghost use Rattle.std.specs.Prelude.{◌≡◌, None};
 ghost use Rattle.chunk.specs.Chunks.{largest};
 ghost use Rattle.chunk.specs.Read.{opening, opened_said, done_of, read, renumbered};
 ghost use Rattle.chunk.specs.Write.{write, sent_of};
-ghost use Rattle.chunk.specs.declared.Tolerance.TheVariants.{Strict};
 
 use inner::{chunks_len, put_chunks};
 use reader::{close, turn};
 use refusal::Refusal;
-use wire::Put;
 use writer::unsent;
 
 pub mod inner;
@@ -32,7 +30,7 @@ pub const MAX_LIMIT: usize = 1_073_741_824;
 // The state of one end. The four small fields stand together, so that it is copied without padding, and `waiting` and `ahead`
 // apart, so that they are not read as one number right after they were written as two. With `waiting`, the header of a chunk of
 // `len` bytes with the number `ahead` is remembered, and its chunk not taken yet; `taken` counts the bytes of the current packet.
-#[derive(Clone, Copy)]
+#[derive(Clone, Copy, PartialEq, Eq)]
 pub struct PlainPacketCodec {
     pub limit: usize,
     pub taken: usize,
@@ -43,52 +41,39 @@ pub struct PlainPacketCodec {
     pub ahead: u8,
 }
 
-// A state to begin with. A refused opening gives a closed one.
-#[derive(Clone, Copy)]
-pub enum Opened {
-    Open(PlainPacketCodec),
-    Refused(Refusal, PlainPacketCodec),
+// An opening that was refused, and the closed state to go on with.
+#[derive(Clone, Copy, PartialEq, Eq)]
+pub struct Shut<S> {
+    pub why: Refusal,
+    pub state: S,
 }
 
-// Which number a chunk may have besides the expected one: stored frames accept that of the last frame.
-#[derive(Clone, Copy)]
-pub enum Tolerance {
-    Strict,
-    Also(u8),
-}
-
-// What a reader answers: a whole packet is so many bytes at the packet buffer's front.
-#[derive(Clone, Copy)]
-pub enum Answer {
-    NeedMore,
-    Packet(usize),
-    Refused(Refusal),
-}
-
-// The answer, the bytes used and the state then.
-#[derive(Clone, Copy)]
-pub struct Decoded {
-    pub answer: Answer,
+// What a reader answers: what is whole, or that more bytes are needed; with the bytes used and the state then. Of a packet
+// it is how many bytes it has at the packet buffer's front.
+#[derive(Clone, Copy, PartialEq, Eq)]
+pub struct Decoded<T, S> {
+    pub answer: Result<Option<T>, Refusal>,
     pub used: usize,
-    pub next: PlainPacketCodec,
+    pub next: S,
 }
 
 // One chunk: with `more`, the packet goes on behind it.
 #[derive(Clone, Copy)]
 pub struct Turn {
     pub more: bool,
-    pub decoded: Decoded,
+    pub decoded: Decoded<usize, PlainPacketCodec>,
 }
 
 // What a writer answers, the bytes written or why nothing was, and the state then.
-#[derive(Clone, Copy)]
-pub struct Encoded {
-    pub put: Put,
-    pub next: PlainPacketCodec,
+#[derive(Clone, Copy, PartialEq, Eq)]
+pub struct Encoded<S> {
+    pub put: Result<usize, Refusal>,
+    pub next: S,
 }
 
 // Opens a codec for packets of at most `limit` bytes.
-pub fn opening(limit: usize) -> Opened
+#[tactic(auto, unfolding(crate::specs::Read::opening))]
+pub fn opening(limit: usize) -> Result<PlainPacketCodec, Shut<PlainPacketCodec>>
     ensures { opened_said result ≡ opening limit }
 {
     let codec = PlainPacketCodec {
@@ -100,29 +85,38 @@ pub fn opening(limit: usize) -> Opened
         ahead: 0,
         closed: false,
     };
-    if limit == 0 {
-        return Opened::Refused(Refusal::BadLimit, close(codec));
+    if limit == 0 || MAX_LIMIT < limit {
+        return Err(Shut {
+            why: Refusal::BadLimit,
+            state: close(codec),
+        });
     }
-    if MAX_LIMIT < limit {
-        return Opened::Refused(Refusal::BadLimit, close(codec));
-    }
-    Opened::Open(codec)
+    Ok(codec)
 }
 
 // Reads chunks from the front of src into dst, until a packet is whole, more bytes are needed or a chunk is refused.
-pub fn decode(dst: &mut [u8], codec: PlainPacketCodec, src: &[u8]) -> Decoded
-    ensures { done_of result dst.new ≡ read largest Strict codec src.now dst.old }
+pub fn decode(
+    dst: &mut [u8],
+    codec: PlainPacketCodec,
+    src: &[u8],
+) -> Decoded<usize, PlainPacketCodec>
+    ensures { done_of result dst.new ≡ read largest None codec src.now dst.old }
 {
-    decode_with(dst, Tolerance::Strict, codec, src)
+    decode_with(dst, None, codec, src)
 }
 
 // The same, with a second number that is accepted besides the expected one.
-pub fn decode_with(dst: &mut [u8], x: Tolerance, codec: PlainPacketCodec, src: &[u8]) -> Decoded
+pub fn decode_with(
+    dst: &mut [u8],
+    x: Option<u8>,
+    codec: PlainPacketCodec,
+    src: &[u8],
+) -> Decoded<usize, PlainPacketCodec>
     ensures { done_of result dst.new ≡ read largest x codec src.now dst.old }
 {
     if codec.closed {
         return Decoded {
-            answer: Answer::Refused(Refusal::Closed),
+            answer: Err(Refusal::Closed),
             used: 0,
             next: codec,
         };
@@ -148,7 +142,11 @@ pub fn decode_with(dst: &mut [u8], x: Tolerance, codec: PlainPacketCodec, src: &
 }
 
 // Writes a packet as chunks to the front of dst.
-pub fn packet_to_chunks(dst: &mut [u8], codec: PlainPacketCodec, packet: &[u8]) -> Encoded
+pub fn packet_to_chunks(
+    dst: &mut [u8],
+    codec: PlainPacketCodec,
+    packet: &[u8],
+) -> Encoded<PlainPacketCodec>
     ensures { sent_of result dst.new ≡ write largest codec packet.now dst.old }
 {
     if codec.closed {
@@ -164,10 +162,7 @@ pub fn packet_to_chunks(dst: &mut [u8], codec: PlainPacketCodec, packet: &[u8]) 
     let number = put_chunks(dst, 0, codec.number, packet);
     let mut next = codec;
     next.number = number;
-    Encoded {
-        put: Put::Next(n),
-        next,
-    }
+    Encoded { put: Ok(n), next }
 }
 
 // The next chunk has the number 0.

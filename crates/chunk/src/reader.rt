@@ -5,7 +5,7 @@ ghost use Rattle.chunk.specs.Chunks.{largest};
 ghost use Rattle.chunk.specs.Read.{closed, holding, past, accepted, turned_of, took, chunk_at, headed, turn_of};
 
 use crate::inner::exceeds;
-use crate::{Answer, Decoded, MAX_PAYLOAD_LEN, PlainPacketCodec, Tolerance, Turn};
+use crate::{Decoded, MAX_PAYLOAD_LEN, PlainPacketCodec, Turn};
 use refusal::Refusal;
 use wire::inner::{copy, le};
 
@@ -20,32 +20,29 @@ fn hold(st: PlainPacketCodec, len: usize, number: u8) -> PlainPacketCodec
     ensures { result ≡ holding st len number }
 {
     PlainPacketCodec {
-        limit: st.limit,
-        taken: st.taken,
         len,
-        number: st.number,
         waiting: true,
         ahead: number,
-        closed: st.closed,
+        ..st
     }
 }
 
+#[tactic(auto, unfolding(crate::specs::Chunks::next))]
 fn pass(st: PlainPacketCodec, number: u8, taken: usize) -> PlainPacketCodec
     ensures { result ≡ past st number taken }
 {
     PlainPacketCodec {
-        limit: st.limit,
         taken,
         len: 0,
-        number: std::num::wrapping_add_u8(number, 1),
+        number: number.wrapping_add(1),
         waiting: false,
         ahead: 0,
-        closed: st.closed,
+        ..st
     }
 }
 
 // Nothing is taken; most refusals close the state.
-fn stop(answer: Answer, st: PlainPacketCodec, closes: bool) -> Turn
+fn stop(answer: Result<Option<usize>, Refusal>, st: PlainPacketCodec, closes: bool) -> Turn
     ensures { result ≡ record { more = false; decoded = record { answer = answer; used = 0; next = (if closes then closed st else st) } } }
 {
     let next = if closes { close(st) } else { st };
@@ -59,29 +56,14 @@ fn stop(answer: Answer, st: PlainPacketCodec, closes: bool) -> Turn
     }
 }
 
-fn accepts(x: Tolerance, want: u8, number: u8) -> bool
+fn accepts(x: Option<u8>, want: u8, number: u8) -> bool
     ensures { result ≡ accepted x want number }
 {
-    match x {
-        Tolerance::Strict => {
-            if number == want {
-                return true;
-            }
-            false
-        }
-        Tolerance::Also(other) => {
-            if number == want {
-                return true;
-            }
-            if number == other {
-                return true;
-            }
-            false
-        }
-    }
+    number == want || x == Some(number)
 }
 
 // A whole chunk that fits: its bytes go behind those that the packet has so far.
+#[tactic(auto, using(crate::proofs::Reading::took_put, crate::specs::ReadLaws::took_more_lem, crate::specs::ReadLaws::took_last_lem))]
 fn take_chunk(dst: &mut [u8], st: PlainPacketCodec, len: usize, number: u8, src: &[u8]) -> Turn
     requires { (len + 4 ≤ length src.now) × (st.taken + len ≤ length dst.old) }
     ensures { turned_of result dst.new ≡ took largest st len number src.now dst.old }
@@ -93,7 +75,7 @@ fn take_chunk(dst: &mut [u8], st: PlainPacketCodec, len: usize, number: u8, src:
         return Turn {
             more: true,
             decoded: Decoded {
-                answer: Answer::NeedMore,
+                answer: Ok(None),
                 used,
                 next: pass(st, number, taken),
             },
@@ -102,7 +84,7 @@ fn take_chunk(dst: &mut [u8], st: PlainPacketCodec, len: usize, number: u8, src:
     Turn {
         more: false,
         decoded: Decoded {
-            answer: Answer::Packet(taken),
+            answer: Ok(Some(taken)),
             used,
             next: pass(st, number, 0),
         },
@@ -112,7 +94,7 @@ fn take_chunk(dst: &mut [u8], st: PlainPacketCodec, len: usize, number: u8, src:
 // Steps 4 and 5: a chunk whose header says len and number.
 fn chunk(
     dst: &mut [u8],
-    x: Tolerance,
+    x: Option<u8>,
     st: PlainPacketCodec,
     len: usize,
     number: u8,
@@ -121,19 +103,19 @@ fn chunk(
     ensures { turned_of result dst.new ≡ chunk_at largest x st len number src.now dst.old }
 {
     if exceeds(4, len, src.len()) {
-        return stop(Answer::NeedMore, st, false);
+        return stop(Ok(None), st, false);
     }
     if !accepts(x, st.number, number) {
-        return stop(Answer::Refused(Refusal::OutOfSync), st, true);
+        return stop(Err(Refusal::OutOfSync), st, true);
     }
     if exceeds(st.taken, len, dst.len()) {
-        return stop(Answer::Refused(Refusal::NoRoom), st, false);
+        return stop(Err(Refusal::NoRoom), st, false);
     }
     take_chunk(dst, st, len, number, src)
 }
 
 // Steps 2 and 3: a chunk whose header is there and not remembered.
-fn headed_chunk(dst: &mut [u8], x: Tolerance, st: PlainPacketCodec, src: &[u8]) -> Turn
+fn headed_chunk(dst: &mut [u8], x: Option<u8>, st: PlainPacketCodec, src: &[u8]) -> Turn
     requires { 4 ≤ length src.now }
     ensures { turned_of result dst.new ≡ headed largest x st (le_at src.now 0 3) (slice_index src.now 3) src.now dst.old }
 {
@@ -143,20 +125,20 @@ fn headed_chunk(dst: &mut [u8], x: Tolerance, st: PlainPacketCodec, src: &[u8]) 
         return chunk(dst, x, st, 0, number, src);
     }
     if exceeds(st.taken, len, st.limit) {
-        return stop(Answer::Refused(Refusal::TooLarge), st, true);
+        return stop(Err(Refusal::TooLarge), st, true);
     }
     chunk(dst, x, hold(st, len, number), len, number, src)
 }
 
 // At most one chunk.
-pub(crate) fn turn(dst: &mut [u8], x: Tolerance, st: PlainPacketCodec, src: &[u8]) -> Turn
+pub(crate) fn turn(dst: &mut [u8], x: Option<u8>, st: PlainPacketCodec, src: &[u8]) -> Turn
     ensures { turned_of result dst.new ≡ turn_of largest x st src.now dst.old }
 {
     if st.waiting {
         return chunk(dst, x, st, st.len, st.ahead, src);
     }
     if src.len() < 4 {
-        return stop(Answer::NeedMore, st, false);
+        return stop(Ok(None), st, false);
     }
     headed_chunk(dst, x, st, src)
 }

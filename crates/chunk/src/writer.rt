@@ -1,16 +1,15 @@
 // What `packet_to_chunks` is made of.
-ghost use Rattle.std.specs.Prelude.{◌≡◌, ◌+◌, ◌≤◌, length};
+ghost use Rattle.std.specs.Prelude.{◌≡◌, ◌+◌, ◌≤◌, length, Err};
 ghost use Rattle.wire.specs.Room.{patch};
 ghost use Rattle.chunk.specs.Chunks.{chunk};
 ghost use Rattle.chunk.specs.declared.Encoded.{Encoded};
-ghost use Rattle.wire.specs.declared.Put.TheVariants as P;
 
 use crate::{Encoded, PlainPacketCodec};
 use refusal::Refusal;
-use wire::Put;
 use wire::inner::{copy, put_le};
 
 // A chunk at a place of dst.
+#[tactic(auto, using(crate::proofs::Writing::chunk_put))]
 pub(crate) fn put_chunk(dst: &mut [u8], at: usize, number: u8, part: &[u8])
     requires { at + (length part.now + 4) ≤ length dst.old }
     ensures { dst.new ≡ patch dst.old at (chunk number part.now) }
@@ -21,11 +20,8 @@ pub(crate) fn put_chunk(dst: &mut [u8], at: usize, number: u8, part: &[u8])
 }
 
 // Nothing was written.
-pub(crate) fn unsent(r: Refusal, next: PlainPacketCodec) -> Encoded
-    ensures { result ≡ record { put = P.Refused r; next = next } }
+pub(crate) fn unsent(r: Refusal, next: PlainPacketCodec) -> Encoded<PlainPacketCodec>
+    ensures { result ≡ record { put = Err r; next = next } }
 {
-    Encoded {
-        put: Put::Refused(r),
-        next,
-    }
+    Encoded { put: Err(r), next }
 }

@@ -4,533 +4,312 @@
 // written and must be the bytes that the client sent, and each answer of the server is read to its end, by one codec.
 #![tactic(auto)]
 
-ghost use Rattle.std.specs.Prelude.{◌<◌, ◌≤◌};
-
-use chunk::{Answer, Decoded, Encoded, Opened, PlainPacketCodec, Tolerance};
-use refusal::number_of;
+use chunk::{Decoded, Encoded, PlainPacketCodec};
+use files::{byte_at, long_at, word_at};
+use refusal::{Refusal, number_of};
+use std::alloc::{AllocError, Global};
 use std::fs::File;
-use wire::{Put, ReadNum, part};
-
-const STDOUT_FILENO: i32 = 1;
+use std::io;
+use std::io::Read;
+use std::rt::Files;
+use wire::part;
 
 // The limit that the captured connections are read with.
 const LIMIT: usize = 61_440;
 
-// ---- numbers of a file, low byte first; 0 past its end
+// How many bytes of the list and of a capture are read: what a longer file has behind them is not.
+const LIST: u64 = 262_144;
 
-fn short(file: &[u8], at: usize) -> u8 {
-    match wire::checked_eat_u8(file, at) {
-        ReadNum::Done(n) => (n.value % 0x100) as u8,
-        ReadNum::Refused(_) => 0,
+const CAPTURE: u64 = 65_536;
+
+// How many cases are tried and how many exchanges are replayed, at most.
+const CASES: usize = 2500;
+
+const EXCHANGES: usize = 4000;
+
+const PACKETS: usize = 300;
+
+const CAPTURES: [&str; 7] = [
+    "binary-rows",
+    "ok-err-eof",
+    "ok-err-eof-tracked",
+    "parameters",
+    "seq-wrap",
+    "session-track",
+    "text-rows",
+];
+
+// The front of a file, as many bytes as are asked for.
+fn read_front(rt: &(impl Files + AllocGlobal), name: &str, most: u64) -> io::Result<Vec<u8>> {
+    let mut bytes = Vec::new(rt.alloc());
+    File::open(rt, name)?.take(most).read_to_end(&mut bytes)?;
+    Ok(bytes)
+}
+
+// The bytes from a place on; none where it is past the end.
+fn tail(bytes: &[u8], at: usize) -> &[u8] {
+    bytes.get(at..).unwrap_or_default()
+}
+
+// A file from the k-th row on of the table at a place: its rows have one size.
+fn row(file: &[u8], table: usize, size: usize, k: usize) -> &[u8] {
+    tail(file, k.saturating_mul(size).saturating_add(table))
+}
+
+// The part of a file whose place and length stand at two places of a row.
+fn part_at<'a>(file: &'a [u8], row: &[u8], at: usize, len: usize) -> &'a [u8] {
+    part(file, word_at(row, at) as usize, word_at(row, len) as usize)
+}
+
+// ---- the list of calls
+
+// A case: its numbers stand in the row, and the bytes that it points at in the list.
+#[derive(Clone, Copy)]
+struct Case<'a> {
+    list: &'a [u8],
+    row: &'a [u8],
+}
+
+// An answer as the list has it: 0 need more, 1 and a length, 2 and a refusal's number.
+fn listed(answer: Result<Option<usize>, Refusal>) -> (u32, u64) {
+    match answer {
+        Ok(None) => (0, 0),
+        Ok(Some(n)) => (1, n as u64),
+        Err(why) => (2, u64::from(number_of(why))),
     }
 }
 
-fn word(file: &[u8], at: usize) -> usize
-    ensures { result < 0x1_0000_0000 }
-{
-    match wire::checked_eat_u32_le(file, at) {
-        ReadNum::Done(n) => (n.value % 0x1_0000_0000) as usize,
-        ReadNum::Refused(_) => 0,
-    }
-}
-
-fn long(file: &[u8], at: usize) -> usize {
-    match wire::checked_eat_u64_le(file, at) {
-        ReadNum::Done(n) => n.value as usize,
-        ReadNum::Refused(_) => 0,
-    }
-}
-
-fn state_at(file: &[u8], at: usize) -> PlainPacketCodec
-    requires { at < 0x1_0000_0000 }
-{
+fn state_of(bytes: &[u8]) -> PlainPacketCodec {
     PlainPacketCodec {
-        limit: long(file, at),
-        taken: long(file, at + 8),
-        len: long(file, at + 16),
-        number: short(file, at + 24),
-        waiting: short(file, at + 25) == 1,
-        ahead: short(file, at + 26),
-        closed: short(file, at + 27) == 1,
+        limit: long_at(bytes, 0) as usize,
+        taken: long_at(bytes, 8) as usize,
+        len: long_at(bytes, 16) as usize,
+        number: byte_at(bytes, 24),
+        waiting: byte_at(bytes, 25) == 1,
+        ahead: byte_at(bytes, 26),
+        closed: byte_at(bytes, 27) == 1,
     }
 }
 
-// ---- what a case asks for
+impl<'a> Case<'a> {
+    // The bytes that are read, or the packet that is written.
+    fn bytes(self) -> &'a [u8] {
+        part_at(self.list, self.row, 8, 12)
+    }
 
-fn same_state(a: PlainPacketCodec, b: PlainPacketCodec) -> bool {
-    if a.limit != b.limit {
-        return false;
+    fn buffer_before(self) -> &'a [u8] {
+        part_at(self.list, self.row, 16, 20)
     }
-    if a.taken != b.taken {
-        return false;
-    }
-    if a.len != b.len {
-        return false;
-    }
-    if a.number != b.number {
-        return false;
-    }
-    if a.waiting != b.waiting {
-        return false;
-    }
-    if a.ahead != b.ahead {
-        return false;
-    }
-    a.closed == b.closed
-}
 
-// The case's answer: 0 need more, 1 a length, 2 a refusal's number.
-fn is_said(file: &[u8], at: usize, kind: usize, value: usize) -> bool
-    requires { at < 0x10_0000 }
-{
-    if word(file, at + 28) != kind {
-        return false;
+    fn buffer_after(self) -> &'a [u8] {
+        part_at(self.list, self.row, 24, 20)
     }
-    long(file, at + 32) == value
-}
 
-fn is_left(file: &[u8], at: usize, next: PlainPacketCodec, buf: &[u8]) -> bool
-    requires { at < 0x10_0000 }
-{
-    if !same_state(next, state_at(file, at + 76)) {
-        return false;
+    fn state_before(self) -> PlainPacketCodec {
+        state_of(tail(self.row, 48))
     }
-    check::same(buf, part(file, word(file, at + 24), word(file, at + 20)))
-}
 
-fn read_right(file: &[u8], at: usize, r: Decoded, buf: &[u8]) -> bool
-    requires { at < 0x10_0000 }
-{
-    let answer = r.answer;
-    let said = match answer {
-        Answer::NeedMore => is_said(file, at, 0, 0),
-        Answer::Packet(n) => is_said(file, at, 1, n),
-        Answer::Refused(why) => is_said(file, at, 2, number_of(why) as usize),
-    };
-    if !said {
-        return false;
+    fn state_after(self) -> PlainPacketCodec {
+        state_of(tail(self.row, 76))
     }
-    if r.used != long(file, at + 40) {
-        return false;
+
+    fn is_said(self, answer: Result<Option<usize>, Refusal>) -> bool {
+        listed(answer) == (word_at(self.row, 28), long_at(self.row, 32))
     }
-    is_left(file, at, r.next, buf)
-}
 
-fn written_right(file: &[u8], at: usize, r: Encoded, buf: &[u8]) -> bool
-    requires { at < 0x10_0000 }
-{
-    let put = r.put;
-    let said = match put {
-        Put::Next(n) => is_said(file, at, 1, n),
-        Put::Refused(why) => is_said(file, at, 2, number_of(why) as usize),
-    };
-    if !said {
-        return false;
+    fn is_left(self, next: PlainPacketCodec, buf: &[u8]) -> bool {
+        next == self.state_after() && buf == self.buffer_after()
     }
-    is_left(file, at, r.next, buf)
-}
 
-// ---- the cases
+    fn is_read(self, read: Decoded<usize, PlainPacketCodec>, buf: &[u8]) -> bool {
+        self.is_said(read.answer)
+            && read.used as u64 == long_at(self.row, 40)
+            && self.is_left(read.next, buf)
+    }
 
-fn try_decode(buf: &mut [u8], file: &[u8], at: usize) -> bool
-    requires { at < 0x10_0000 }
-{
-    let src = part(file, word(file, at + 8), word(file, at + 12));
-    let r = chunk::decode(buf, state_at(file, at + 48), src);
-    read_right(file, at, r, buf)
-}
+    fn is_written(self, written: Encoded<PlainPacketCodec>, buf: &[u8]) -> bool {
+        self.is_said(written.put.map(Some)) && self.is_left(written.next, buf)
+    }
 
-fn try_decode_with(buf: &mut [u8], file: &[u8], at: usize) -> bool
-    requires { at < 0x10_0000 }
-{
-    let src = part(file, word(file, at + 8), word(file, at + 12));
-    let x = Tolerance::Also(short(file, at + 4));
-    let r = chunk::decode_with(buf, x, state_at(file, at + 48), src);
-    read_right(file, at, r, buf)
-}
+    // An opening answers no length, and lends no buffer.
+    fn is_opened(self, limit: usize) -> bool {
+        match chunk::opening(limit) {
+            Ok(codec) => self.is_said(Ok(Some(0))) && self.is_left(codec, b""),
+            Err(shut) => self.is_said(Err(shut.why)) && self.is_left(shut.state, b""),
+        }
+    }
 
-fn try_write(buf: &mut [u8], file: &[u8], at: usize) -> bool
-    requires { at < 0x10_0000 }
-{
-    let packet = part(file, word(file, at + 8), word(file, at + 12));
-    let r = chunk::packet_to_chunks(buf, state_at(file, at + 48), packet);
-    written_right(file, at, r, buf)
-}
-
-fn try_opening(file: &[u8], at: usize) -> bool
-    requires { at < 0x10_0000 }
-{
-    match chunk::opening(long(file, at + 48)) {
-        Opened::Open(codec) => {
-            if !is_said(file, at, 1, 0) {
-                return false;
+    // Whether the case is answered as it should be, on a buffer of its own length out of the larger one.
+    fn is_right(self, space: &mut [u8]) -> bool {
+        let Some(buf) = space.get_mut(..word_at(self.row, 20) as usize) else {
+            return false;
+        };
+        let _ = wire::put_slice(buf, 0, self.buffer_before());
+        let codec = self.state_before();
+        let bytes = self.bytes();
+        match word_at(self.row, 0) {
+            0 => self.is_read(chunk::decode(buf, codec, bytes), buf),
+            1 => {
+                let also = Some(byte_at(self.row, 4));
+                self.is_read(chunk::decode_with(buf, also, codec, bytes), buf)
             }
-            is_left(file, at, codec, b"")
-        }
-        Opened::Refused(why, codec) => {
-            if !is_said(file, at, 2, number_of(why) as usize) {
-                return false;
-            }
-            is_left(file, at, codec, b"")
+            2 => self.is_written(chunk::packet_to_chunks(buf, codec, bytes), buf),
+            3 => self.is_opened(codec.limit),
+            4 => self.is_left(chunk::reset_seq_id(codec), b""),
+            _ => false,
         }
     }
 }
 
-// The case at a place; the buffer is as long as the case's own.
-fn try_case(buf: &mut [u8], file: &[u8], at: usize) -> bool
-    requires { at < 0x10_0000 }
-{
-    wire::put_slice(buf, 0, part(file, word(file, at + 16), word(file, at + 20)));
-    match word(file, at) {
-        0 => try_decode(buf, file, at),
-        1 => try_decode_with(buf, file, at),
-        2 => try_write(buf, file, at),
-        3 => try_opening(file, at),
-        4 => is_left(file, at, chunk::reset_seq_id(state_at(file, at + 48)), b""),
-        _ => false,
-    }
-}
-
-fn say(what: &[u8], n: usize) {
-    io::write_all(STDOUT_FILENO, what);
-    io::print_decimal(STDOUT_FILENO, n as u64);
-    io::write_all(STDOUT_FILENO, b"\n");
-}
-
-// Whether a case is answered as it should be, on a buffer of its length out of the larger one.
-fn is_right(space: &mut [u8], file: &[u8], at: usize) -> bool
-    requires { at < 0x10_0000 }
-{
-    let n = word(file, at + 20);
-    if space.len() < n {
-        return false;
-    }
-    try_case(&mut space[..n], file, at)
-}
-
-// 1 for a case that is answered otherwise, and says which.
-fn differs(space: &mut [u8], file: &[u8], k: usize) -> usize
-    requires { k < 2500 }
-    ensures { result ≤ 1 }
-{
-    if is_right(space, file, 4 + 104 * k) {
-        return 0;
-    }
-    say(b"differs: case ", k);
-    1
-}
-
-// How many of the first n cases are answered otherwise; 2,500 cases are more than a file holds.
-fn differences(space: &mut [u8], file: &[u8], n: usize) -> usize {
-    let mut count = 0;
-    let mut k = 0;
-    while k < 2500 {
-        if n <= k {
-            return count;
+fn run_cases(rt: &(impl Files + AllocGlobal + Print)) -> io::Result<()> {
+    let list = read_front(rt, "vectors", LIST)?;
+    let n = word_at(&list, 0) as usize;
+    println!(rt; "cases {n}")?;
+    let mut space = [0u8; 4096];
+    let mut differences = 0usize;
+    for k in 0..n.min(CASES) {
+        let case = Case {
+            list: &list,
+            row: row(&list, 4, 104, k),
+        };
+        if !case.is_right(&mut space) {
+            println!(rt; "differs: case {k}")?;
+            differences = differences.saturating_add(1);
         }
-        count += differs(space, file, k);
-        k += 1;
     }
-    count
+    println!(rt; "  differences {differences}")
 }
 
 // ---- two ends
 
-#[derive(Clone, Copy)]
-struct Ends {
-    writer: PlainPacketCodec,
-    reader: PlainPacketCodec,
-    right: bool,
+fn open_codec(limit: usize) -> PlainPacketCodec {
+    chunk::opening(limit).unwrap_or_else(|shut| shut.state)
 }
 
-// The reading end then, and whether it read what it should.
-#[derive(Clone, Copy)]
-struct Back {
-    reader: PlainPacketCodec,
-    right: bool,
+// One packet from an end to the other, both in the same state before and behind it: that state then, if it came through.
+fn pass_on(codec: PlainPacketCodec, packet: &[u8]) -> Option<PlainPacketCodec> {
+    let mut out = [0u8; 16];
+    let mut back = [0u8; 16];
+    let sent = chunk::packet_to_chunks(&mut out, codec, packet);
+    let bytes = part(&out, 0, sent.put.ok()?);
+    let got = chunk::decode(&mut back, codec, bytes);
+    let read = part(&back, 0, got.answer.ok()??);
+    (read == packet && got.used == bytes.len() && got.next == sent.next).then_some(sent.next)
 }
 
-// Reads bytes that must be one packet, to their end.
-fn read_back(back: &mut [u8], reader: PlainPacketCodec, bytes: &[u8], packet: &[u8]) -> Back {
-    let got = chunk::decode(back, reader, bytes);
-    let answer = got.answer;
-    let right = match answer {
-        Answer::NeedMore => false,
-        Answer::Packet(l) => check::same(part(back, 0, l), packet),
-        Answer::Refused(_) => false,
-    };
-    Back {
-        reader: got.next,
-        right: right && got.used == bytes.len(),
-    }
-}
-
-// How many bytes were written.
-fn written(put: Put) -> usize {
-    match put {
-        Put::Next(n) => n,
-        Put::Refused(_) => 0,
-    }
-}
-
-// One packet from an end to the other.
-fn pass_on(out: &mut [u8], back: &mut [u8], ends: Ends, packet: &[u8]) -> Ends {
-    let sent = chunk::packet_to_chunks(out, ends.writer, packet);
-    let put = sent.put;
-    let n = written(put);
-    let got = read_back(back, ends.reader, part(out, 0, n), packet);
-    let writer = sent.next;
-    let reader = got.reader;
-    Ends {
-        writer,
-        reader,
-        right: got.right,
-    }
-}
-
-// 300 packets of 0 to 9 bytes; how many came through.
-fn pass_all(out: &mut [u8], back: &mut [u8], first: PlainPacketCodec) -> usize {
-    let mut ends = Ends {
-        writer: first,
-        reader: first,
-        right: true,
-    };
-    let mut k = 0;
-    while k < 300 {
-        ends = pass_on(out, back, ends, part(b"0123456789", 0, k % 10));
-        if !ends.right {
-            return k;
+// Packets of 0 to 9 bytes; how many came through.
+fn pass_all(rt: &impl Print, first: PlainPacketCodec) -> io::Result<usize> {
+    let mut codec = first;
+    for k in 0..PACKETS {
+        match pass_on(codec, &b"0123456789"[..k % 10]) {
+            Some(next) => codec = next,
+            None => return Ok(k),
         }
-        if !same_state(ends.writer, ends.reader) {
-            return k;
-        }
-        k += 1;
     }
-    say(b"the number then ", ends.reader.number as usize);
-    k
+    println!(rt; "the number then {}", codec.number)?;
+    Ok(PACKETS)
+}
+
+fn run_ends(rt: &impl Print) -> io::Result<()> {
+    let passed = pass_all(rt, open_codec(9))?;
+    println!(rt; "packets over the wrap {passed}")
 }
 
 // ---- captured connections
 
-#[derive(Clone, Copy)]
-struct Run {
+// A connection's codec, the buffers that it is lent, and how many packets the server has sent.
+#[derive(Drop)]
+struct Connection {
     codec: PlainPacketCodec,
-    used: usize,
+    out: Vec<u8>,
+    packet: Vec<u8>,
     packets: usize,
-    right: bool,
 }
 
-// Whether a writer put exactly these bytes.
-fn is_put(put: Put, out: &[u8], bytes: &[u8]) -> bool {
-    match put {
-        Put::Next(n) => check::same(part(out, 0, n), bytes),
-        Put::Refused(_) => false,
+impl Connection {
+    fn open(alloc: Global) -> Result<Self, AllocError> {
+        Ok(Connection {
+            codec: open_codec(LIMIT),
+            out: vec![in alloc; 0; 65536]?,
+            packet: vec![in alloc; 0; LIMIT]?,
+            packets: 0,
+        })
     }
-}
 
-// The command as the client sent it, out of its payload.
-fn send(out: &mut [u8], codec: PlainPacketCodec, bytes: &[u8]) -> Run {
-    let sent = chunk::packet_to_chunks(
-        out,
-        codec,
-        part(bytes, 4, std::num::wrapping_sub_usize(bytes.len(), 4)),
-    );
-    let put = sent.put;
-    let next = sent.next;
-    Run {
-        codec: next,
-        used: bytes.len(),
-        packets: 1,
-        right: is_put(put, out, bytes),
+    fn is_idle(&self) -> bool {
+        !self.codec.closed && !self.codec.waiting && self.codec.taken == 0
     }
-}
 
-fn is_idle(codec: PlainPacketCodec) -> bool {
-    if codec.closed {
-        return false;
+    // Whether a command is written as the client sent it, out of its payload.
+    fn sends(&mut self, command: &[u8]) -> bool {
+        let sent = chunk::packet_to_chunks(&mut self.out, self.codec, tail(command, 4));
+        self.codec = sent.next;
+        sent.put.is_ok_and(|n| part(&self.out, 0, n) == command)
     }
-    if codec.waiting {
-        return false;
-    }
-    codec.taken == 0
-}
 
-// Whether a packet's bytes are those behind its header: none here has more than one chunk.
-fn is_there(answer: Answer, dst: &[u8], bytes: &[u8], at: usize) -> bool {
-    match answer {
-        Answer::NeedMore => true,
-        Answer::Packet(n) => check::same(
-            part(dst, 0, n),
-            part(bytes, std::num::wrapping_add_usize(at, 4), n),
-        ),
-        Answer::Refused(_) => false,
-    }
-}
-
-// At most so many packets from a place on; where the bytes end before, nothing of a packet may be left over.
-fn receive(dst: &mut [u8], codec: PlainPacketCodec, bytes: &[u8], from: usize, many: usize) -> Run {
-    let mut st = codec;
-    let mut at = from;
-    let mut n = 0;
-    while n < many {
-        let got = chunk::decode(
-            dst,
-            st,
-            part(bytes, at, std::num::wrapping_sub_usize(bytes.len(), at)),
-        );
-        st = got.next;
-        if !is_there(got.answer, dst, bytes, at) {
-            return Run {
-                codec: st,
-                used: at,
-                packets: n,
-                right: false,
-            };
+    // At most so many packets, and what is left of the bytes behind them. Each must be the bytes behind its header: none here has
+    // more than one chunk. Where the bytes end before, nothing of a packet may be left over.
+    fn receives<'a>(&mut self, bytes: &'a [u8], most: usize) -> Option<&'a [u8]> {
+        let mut rest = bytes;
+        for _ in 0..most {
+            let got = chunk::decode(&mut self.packet, self.codec, rest);
+            self.codec = got.next;
+            match got.answer {
+                Ok(Some(n)) if part(&self.packet, 0, n) == part(rest, 4, n) => {
+                    rest = rest.get(got.used..)?;
+                    self.packets = self.packets.saturating_add(1);
+                }
+                Ok(None) if self.is_idle() && rest.is_empty() => break,
+                _ => return None,
+            }
         }
-        at = std::num::wrapping_add_usize(at, got.used);
-        if got.used == 0 {
-            return Run {
-                codec: st,
-                used: at,
-                packets: n,
-                right: is_idle(st) && at == bytes.len(),
-            };
-        }
-        n += 1;
+        Some(rest)
     }
-    Run {
-        codec: st,
-        used: at,
-        packets: n,
-        right: true,
+
+    // A command and its answer, before which the server may send packets unasked: at the login, its greeting.
+    fn exchanges(&mut self, command: &[u8], answer: &[u8], greetings: usize) -> bool {
+        self.codec = chunk::reset_seq_id(self.codec);
+        let Some(rest) = self.receives(answer, greetings) else {
+            return false;
+        };
+        let sent = self.sends(command);
+        self.receives(rest, 60_000).is_some() && sent
+    }
+
+    // How many of a capture's first n exchanges go as captured, up to one that does not.
+    fn replays(&mut self, file: &[u8], n: usize) -> usize {
+        let differs = (0..n).position(|k| {
+            let row = row(file, 4, 16, k);
+            let command = part_at(file, row, 0, 4);
+            let answer = part_at(file, row, 8, 12);
+            !self.exchanges(command, answer, usize::from(k == 0))
+        });
+        differs.unwrap_or(n)
     }
 }
 
-// A command, and its answer from behind what the server said before.
-fn ask(out: &mut [u8], dst: &mut [u8], before: Run, command: &[u8], answer: &[u8]) -> Run {
-    let sent = send(out, before.codec, command);
-    let got = receive(dst, sent.codec, answer, before.used, 60_000);
-    Run {
-        codec: got.codec,
-        used: got.used,
-        packets: std::num::wrapping_add_usize(before.packets, got.packets),
-        right: sent.right && got.right,
+fn run_capture(rt: &(impl Files + AllocGlobal + Print), name: &str) -> io::Result<()> {
+    let file = read_front(rt, name, CAPTURE)?;
+    let n = word_at(&file, 0) as usize;
+    let within = n.min(EXCHANGES);
+    let mut connection = Connection::open(rt.alloc())?;
+    let done = connection.replays(&file, within);
+    if done < within {
+        println!(rt; "differs: exchange {done}")?;
     }
-}
-
-// A command and its answer; at the login the server speaks first.
-fn exchange(out: &mut [u8], dst: &mut [u8], codec: PlainPacketCodec, file: &[u8], k: usize) -> Run
-    requires { k < 4000 }
-{
-    let at = 4 + 16 * k;
-    let command = part(file, word(file, at), word(file, at + 4));
-    let answer = part(file, word(file, at + 8), word(file, at + 12));
-    let many = if k == 0 { 1 } else { 0 };
-    let hello = receive(dst, chunk::reset_seq_id(codec), answer, 0, many);
-    ask(out, dst, hello, command, answer)
-}
-
-// A connection: how many exchanges went as captured, and the packets that the server sent in them.
-fn replay(out: &mut [u8], dst: &mut [u8], codec: PlainPacketCodec, file: &[u8], n: usize) -> Run {
-    let mut st = codec;
-    let mut packets = 0;
-    let mut k = 0;
-    while k < 4000 {
-        if n <= k {
-            return Run {
-                codec: st,
-                used: k,
-                packets,
-                right: true,
-            };
-        }
-        let r = exchange(out, dst, st, file, k);
-        st = r.codec;
-        packets = std::num::wrapping_add_usize(packets, r.packets);
-        if !r.right {
-            say(b"differs: exchange ", k);
-            return Run {
-                codec: st,
-                used: k,
-                packets,
-                right: false,
-            };
-        }
-        k += 1;
+    println!(rt; "{name}: exchanges {done}")?;
+    println!(rt; "  packets of the server {}", connection.packets)?;
+    if done < n {
+        println!(rt; "  not as captured")?;
     }
-    Run {
-        codec: st,
-        used: k,
-        packets,
-        right: false,
-    }
-}
-
-fn open_codec(limit: usize) -> PlainPacketCodec {
-    match chunk::opening(limit) {
-        Opened::Open(codec) => codec,
-        Opened::Refused(_, codec) => codec,
-    }
-}
-
-fn replay_capture(name: &[u8], file: &[u8]) {
-    let mut out = [0u8; 65536];
-    let mut dst = [0u8; 61440];
-    let r = replay(&mut out, &mut dst, open_codec(LIMIT), file, word(file, 0));
-    io::write_all(STDOUT_FILENO, name);
-    say(b": exchanges ", r.used);
-    say(b"  packets of the server ", r.packets);
-    if !r.right {
-        io::write_all(STDOUT_FILENO, b"  not as captured\n");
-    }
-}
-
-fn run_capture(rt: &HostRuntime, name: &str) -> std::io::Result<()> {
-    let mut input = File::open(rt, name)?;
-    let mut buffer = io::large_buffer();
-    let (size, ended) = files::read_full(&mut input, &mut buffer);
-    ended?;
-    replay_capture(name.as_bytes(), part(&buffer, 0, size));
     Ok(())
 }
 
-fn try_cases(file: &[u8]) {
-    let mut space = [0u8; 4096];
-    let n = word(file, 0);
-    say(b"cases ", n);
-    say(b"  differences ", differences(&mut space, file, n));
-}
-
-fn load_cases(rt: &HostRuntime, buffer: &mut [u8]) -> std::io::Result<()> {
-    let mut input = File::open(rt, "vectors")?;
-    let (size, ended) = files::read_full(&mut input, buffer);
-    ended?;
-    try_cases(part(buffer, 0, size));
-    Ok(())
-}
-
-fn run_cases(rt: &HostRuntime) -> std::io::Result<()> {
-    let mut buffer = [0u8; 262144];
-    load_cases(rt, &mut buffer)
-}
-
-fn run_ends() {
-    let mut out = [0u8; 16];
-    let mut back = [0u8; 16];
-    say(
-        b"packets over the wrap ",
-        pass_all(&mut out, &mut back, open_codec(9)),
-    );
-}
-
-fn main(rt: HostRuntime) -> std::io::Result<()> {
+fn main(rt: HostRuntime) -> io::Result<()> {
     run_cases(&rt)?;
-    run_ends();
-    run_capture(&rt, "binary-rows")?;
-    run_capture(&rt, "ok-err-eof")?;
-    run_capture(&rt, "ok-err-eof-tracked")?;
-    run_capture(&rt, "parameters")?;
-    run_capture(&rt, "seq-wrap")?;
-    run_capture(&rt, "session-track")?;
-    run_capture(&rt, "text-rows")
+    run_ends(&rt)?;
+    for name in CAPTURES {
+        run_capture(&rt, name)?;
+    }
+    Ok(())
 }

@@ -1,22 +1,16 @@
 -- The codec of a connection, plain or framed by what was turned on: 01's "Stored frames", over a piece size m.
-use Rattle.std.specs.Prelude.{◌≡◌, Bool, true, false, cond, List, ℕ, length, ltb, eqb}
-use Rattle.refusal.specs.Number.{number}
-use Rattle.wire.specs.Room.{put_said}
-use Rattle.wire.specs.declared.Put.{Put}
+use Rattle.std.specs.Prelude.{◌≡◌, Bool, true, false, cond, List, ℕ, length, ltb, eqb, Option, None, Result}
+use Rattle.refusal.specs.Said.{said_of}
+use Rattle.refusal.specs.declared.Refusal.{Refusal}
 use Rattle.chunk.specs.Chunks.{largest}
-use Rattle.chunk.specs.Read.{Answered, need_more, packet, refused}
+use Rattle.chunk.specs.Read.{Opening, opens, refuses, answer_said}
 use Rattle.chunk.specs.Read as P
 use Rattle.chunk.specs.Write as W
 use Rattle.chunk.specs.declared.PlainPacketCodec.{PlainPacketCodec}
-use Rattle.chunk.specs.declared.Tolerance.TheVariants.{Strict}
 use Rattle.frame.specs.Codec.{plain_of, with_plain, unread_of}
 use Rattle.frame.specs.Read.{Done, read_framed}
 use Rattle.frame.specs.Write.{Sent, write_framed}
 use Rattle.frame.specs.declared.PacketCodec.{PacketCodec}
-use Rattle.codec.specs.declared.Opened.{Opened}
-use Rattle.codec.specs.declared.Opened.TheVariants as O
-use Rattle.codec.specs.declared.Got.{Got}
-use Rattle.codec.specs.declared.Got.TheVariants as G
 
 -- ---- opening
 
@@ -38,21 +32,13 @@ unframed st = record {
   framed = false;
 }
 
-pub data Opening : Type 0 where
-  opens : PacketCodec → Opening
-  refuses : ℕ → PacketCodec → Opening
-
-abbrev pub opening_of : P.Opening → Opening
-opening_of (P.opens st) = opens (unframed st)
-opening_of (P.refuses k st) = refuses k (unframed st)
+abbrev pub opening_of : Opening PlainPacketCodec → Opening PacketCodec
+opening_of (opens st) = opens (unframed st)
+opening_of (refuses k st) = refuses k (unframed st)
 
 -- "a new opening, which gives number 0, idle, frames off"; a refused one, which is 1, a closed codec
-unfoldable pub opening : ℕ → Opening
+unfoldable pub opening : ℕ → Opening PacketCodec
 opening limit = opening_of (P.opening limit)
-
-abbrev pub opened_said : Opened → Opening
-opened_said (O.Open c) = opens c
-opened_said (O.Refused r c) = refuses (number r) c
 
 -- ---- what changes a codec between packets. What is not named stays
 
@@ -82,25 +68,14 @@ synced c = cond c.framed (cond (eqb c.unread 0) (with_plain c (P.renumbered (pla
 
 -- ---- reading: u is the unread source, s the staging buffer, b the packet buffer
 
--- what the code's answer says
-abbrev pub got_said : Got → Answered
-got_said (G.NeedMore n) = need_more
-got_said (G.Packet n len) = packet len
-got_said (G.Refused n r) = refused (number r)
-
-abbrev pub got_used : Got → ℕ
-got_used (G.NeedMore n) = n
-got_used (G.Packet n len) = n
-got_used (G.Refused n r) = n
-
 -- the call as a whole, with the codec and both buffers at its exit
-abbrev pub done_of : Got → PacketCodec → (s b : List ℕ) → Done
-done_of g c s b = record { answer = got_said g; used = got_used g; next = c; unread = unread_of c s; buf = b }
+abbrev pub done_of : Result (Option ℕ) Refusal → ℕ → PacketCodec → (s b : List ℕ) → Done
+done_of a n c s b = record { answer = answer_said a; used = n; next = c; unread = unread_of c s; buf = b }
 
 -- with frames off: the plain reader. "Frames off: staging is ignored and unchanged"
 unfoldable pub read_plain : ℕ → PacketCodec → (u s b : List ℕ) → Done
 read_plain m c u s b =
-    let d = P.read m Strict (plain_of c) u b in
+    let d = P.read m None (plain_of c) u b in
     record { answer = d.answer; used = d.used; next = with_plain c d.next c.unread; unread = unread_of c s; buf = d.buf }
 
 unfoldable pub read_packet : ℕ → PacketCodec → (u s b : List ℕ) → Done
@@ -111,8 +86,8 @@ abbrev pub staging_stays : PacketCodec → List ℕ → Bool
 staging_stays c s = cond c.framed (cond c.closed true (ltb (length s) c.unread)) true
 
 -- the contract of reading, by value and lent: answer, codec and buffers at exit
-pub record Reading (c : PacketCodec) (u s b : List ℕ) (g : Got) (c' : PacketCodec) (s' b' : List ℕ) : Type 0 where
-  pub done : done_of g c' s' b' ≡ read_packet largest c u s b
+pub record Reading (c : PacketCodec) (u s b : List ℕ) (a : Result (Option ℕ) Refusal) (n : ℕ) (c' : PacketCodec) (s' b' : List ℕ) : Type 0 where
+  pub done : done_of a n c' s' b' ≡ read_packet largest c u s b
   pub stays : staging_stays c s ≡ true → s' ≡ s
 
 -- ---- writing: p is the packet, d the buffer
@@ -126,5 +101,5 @@ unfoldable pub write_packet : ℕ → PacketCodec → (p d : List ℕ) → Sent
 write_packet m c p d = cond c.framed (write_framed m c p d) (write_plain m c p d)
 
 -- the contract of writing, by value and lent
-pub record Writing (c : PacketCodec) (p d : List ℕ) (r : Put) (c' : PacketCodec) (d' : List ℕ) : Type 0 where
-  pub sent : record { said = put_said r; next = c'; buf = d' } ≡ write_packet largest c p d
+pub record Writing (c : PacketCodec) (p d : List ℕ) (r : Result ℕ Refusal) (c' : PacketCodec) (d' : List ℕ) : Type 0 where
+  pub sent : record { said = said_of r; next = c'; buf = d' } ≡ write_packet largest c p d

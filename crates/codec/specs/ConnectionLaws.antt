@@ -1,12 +1,11 @@
 -- Laws of the codec of a connection: which reader and writer it is in each mode, and reading in parts in either.
-use Rattle.std.specs.Prelude.{◌≡◌, refl, Bool, List, ◌++◌, ℕ, length, drop}
+use Rattle.std.specs.Prelude.{◌≡◌, refl, Bool, List, ◌++◌, ℕ, length, drop, None}
 use Rattle.std.proofs.Common.{◌∙◌}
 use Rattle.std.proofs.Math.Bool.{true, false}
 use Rattle.chunk.specs.Read as P
 use Rattle.chunk.specs.Read.{need_more}
 use Rattle.chunk.specs.ResumeLaws as C
 use Rattle.chunk.specs.Write as W
-use Rattle.chunk.specs.declared.Tolerance.TheVariants.{Strict}
 use Rattle.frame.specs.Codec.{plain_of, with_plain, unread_of}
 use Rattle.frame.specs.Read.{Done, read_framed, later}
 use Rattle.frame.specs.ReadLaws.{framed_mode}
@@ -41,7 +40,7 @@ module _ (m : ℕ) (c : PacketCodec) where
   unfolding write_packet
   off_writer p d e = rw e
 
-  pub plain_reader : (u s b : List ℕ) → c.framed ≡ false → plain_done (read_packet m c u s b) ≡ P.read m Strict (plain_of c) u b
+  pub plain_reader : (u s b : List ℕ) → c.framed ≡ false → plain_done (read_packet m c u s b) ≡ P.read m None (plain_of c) u b
   unfolding read_plain
   plain_reader u s b e = rw (off_reader u s b e)
 
@@ -50,7 +49,7 @@ module _ (m : ℕ) (c : PacketCodec) where
   plain_writer p d e = rw (off_writer p d e)
 
   pub plain_reader-rest : (u s b : List ℕ) → c.framed ≡ false
-      → (read_packet m c u s b).next ≡ with_plain c (P.read m Strict (plain_of c) u b).next c.unread
+      → (read_packet m c u s b).next ≡ with_plain c (P.read m None (plain_of c) u b).next c.unread
   unfolding read_plain
   plain_reader-rest u s b e = rw (off_reader u s b e)
 
@@ -81,7 +80,7 @@ module _ (m : ℕ) (c : PacketCodec) (u v s s' b : List ℕ) where
       let f = read_plain m c u s b in
       let n = off_reader m f.next (drop f.used u ++ v) s' f.buf k in
       let w' : unread_of f.next s' ≡ unread_of c s = rw o at w in
-      rw (off_reader m c (u ++ v) s b k, o, n) (rw (C.resume m Strict (plain_of c) u v b (rw o at a), w'))
+      rw (off_reader m c (u ++ v) s b k, o, n) (rw (C.resume m None (plain_of c) u v b (rw o at a), w'))
 
   -- a call that asks for more, then a call on what it left and what came after: one call on all of it
   pub resume : first.answer ≡ need_more → unread_of first.next s' ≡ first.unread → length s' ≡ length s
@@ -95,7 +94,7 @@ module _ (m : ℕ) (c : PacketCodec) (u v s s' b : List ℕ) where
       rw (framed-reader m c (u ++ v) s b k, o) (framed_stays m c u v s s' b (λ y. a (rw o y)))
   stays_by false k a =
       let o = off_reader m c u s b k in
-      rw (off_reader m c (u ++ v) s b k, o) (rw (C.stays m Strict (plain_of c) u v b (λ y. a (rw o y))))
+      rw (off_reader m c (u ++ v) s b k, o) (rw (C.stays m None (plain_of c) u v b (λ y. a (rw o y))))
 
   -- a call that answers a packet or a refusal answers the same when more bytes follow
   pub stays : (first.answer ≡ need_more → ⊥) → read_packet m c (u ++ v) s b ≡ first

@@ -1,13 +1,13 @@
 -- "Staging of 2·limit + 4 bytes never gives 6", for every codec that a host can have: opened, and then lent such a staging buffer and a
 -- packet buffer of limit bytes at each reading.
-use Rattle.std.specs.Prelude.{◌≡◌, refl, Bool, true, false, List, ℕ, ◌+◌, ◌≤◌, length, eqb, ltb}
+use Rattle.std.specs.Prelude.{◌≡◌, refl, Bool, true, false, List, ℕ, ◌+◌, ◌≤◌, length, eqb, ltb, None}
 use Rattle.std.proofs.Common.{◌∙◌, arith}
 use Rattle.chunk.specs.Chunks.{needed, after}
 use Rattle.chunk.specs.Read as P
-use Rattle.chunk.specs.Read.{refused, idle}
+use Rattle.chunk.specs.Read.{Opening, opens, refused, idle}
 use Rattle.chunk.specs.ReadLaws.{by_test}
 use Rattle.chunk.specs.Write as W
-use Rattle.chunk.specs.declared.Tolerance.TheVariants.{Strict}
+use Rattle.chunk.specs.declared.PlainPacketCodec.{PlainPacketCodec}
 use Rattle.frame.specs.CalmLaws as F
 use Rattle.frame.specs.CalmLaws.{Good, read_calm, first_good, renumbered_good}
 use Rattle.frame.specs.Codec.{plain_of, with_plain, renumbered}
@@ -16,7 +16,7 @@ use Rattle.frame.specs.Write as G
 use Rattle.frame.specs.Write.{piece_of, total, write_framed}
 use Rattle.frame.specs.WriteLaws.{sent}
 use Rattle.frame.specs.declared.PacketCodec.{PacketCodec}
-use Rattle.codec.specs.Connection.{unframed, opens, opening_of, opening, frames_on, synced, read_plain, read_packet, write_plain, write_packet}
+use Rattle.codec.specs.Connection.{unframed, opening_of, opening, frames_on, synced, read_plain, read_packet, write_plain, write_packet}
 use Rattle.codec.specs.ConnectionLaws.{framed-reader, off_reader}
 
 -- the codecs that a host can have, where l is the limit of its opening: what each entry makes of such a one is another
@@ -38,10 +38,10 @@ Sound l c = Good c × (c.limit ≡ l)
 opened_sound : (l : ℕ) (c : PacketCodec) → opening l ≡ opens c → Sound l c
 unfolding opening P.opening
 opened_sound l c =
-    let Q : P.Opening → Type 0 = λ o. opening_of o ≡ opens c → Sound l c in
+    let Q : Opening PlainPacketCodec → Type 0 = λ o. opening_of o ≡ opens c → Sound l c in
     let shut = P.refuses 1 (P.closed (idle l 0)) in
     by_test Q (eqb l 0) shut _ (λ _ e. absurd (zero_one (cc e)))
-    (λ _. by_test Q (ltb 1073741824 l) shut (P.opens (idle l 0)) (λ _ e. absurd (zero_one (cc e)))
+    (λ _. by_test Q (ltb 1073741824 l) shut (opens (idle l 0)) (λ _ e. absurd (zero_one (cc e)))
     (λ _ e. let z : unframed (idle l 0) ≡ c = cc e in rw (← z) (first_good l 0 0 false, refl)))
 
 turned_sound : (l : ℕ) (c : PacketCodec) → Sound l c → Sound l (frames_on c)
@@ -75,7 +75,7 @@ read_by m l c u s b true k g r h =
     let n = F.never_six m c u s b g.0 (omega (arith, g.1)) (rw g.1 h) in
     rw (framed-reader m c u s b k) (n.0, (n.1, n.2 ∙ g.1))
 read_by m l c u s b false k g r h =
-    let n = read_calm m Strict (plain_of c) u b g.0.plain (rw g.1 h) in
+    let n = read_calm m None (plain_of c) u b g.0.plain (rw g.1 h) in
     rw (off_reader m c u s b k) (
       n.never,
       (record { plain = n.fits; frame = λ len num e. rw n.limit (g.0.frame len num e); few = rw n.limit g.0.few }, n.limit ∙ g.1),

@@ -1,14 +1,9 @@
 -- The signed duration, by 01's "Duration", in microseconds.
+use Rattle.wire.specs.declared.Parsed.{Parsed}
 use Rattle.std.specs.Prelude.{ℕ, ◌+◌, ◌*◌, Bool, cond, List, ℤ, pos, neg_ℤ, leb}
-use Rattle.refusal.specs.Number.{number}
-use Rattle.refusal.specs.Said.{Said, gives, refused, check, and_then}
+use Rattle.refusal.specs.Said.{Said, gives, check, and_then}
 use Rattle.duration.specs.Time.{time_at}
 use Rattle.duration.specs.declared.Time.{Time}
-use Rattle.duration.specs.declared.Duration.{Duration}
-use Rattle.duration.specs.declared.Duration.TheVariants as D
-use Rattle.duration.specs.declared.GotDuration.{GotDuration}
-use Rattle.duration.specs.declared.ReadDuration.{ReadDuration}
-use Rattle.duration.specs.declared.ReadDuration.TheVariants as R
 
 -- the largest size: "a duration's size exceeds 9,223,372,036,854,775,807 microseconds" is 11
 abbrev pub most : ℕ
@@ -30,14 +25,5 @@ unfoldable pub duration_of : Time → Said ℤ
 duration_of t = check (leb (size_of t) most) 11 (gives (signed t.neg (size_of t)))
 
 -- the duration of the TIME value at a place: the value's refusal, then the duration's
-unfoldable pub duration_at : List ℕ → ℕ → Said GotDuration
-duration_at s at = and_then (time_at s at) (λ t. and_then (duration_of t.time) (λ z. gives (record { micros = z; next = t.next })))
-
--- what the answers say
-abbrev pub duration_said : Duration → Said ℤ
-duration_said (D.Micros z) = gives z
-duration_said (D.Refused r) = refused (number r)
-
-abbrev pub read_said : ReadDuration → Said GotDuration
-read_said (R.Done d) = gives d
-read_said (R.Refused r) = refused (number r)
+unfoldable pub duration_at : List ℕ → ℕ → Said (Parsed ℤ)
+duration_at s at = and_then (time_at s at) (λ t. and_then (duration_of t.value) (λ z. gives (record { value = z; next = t.next })))

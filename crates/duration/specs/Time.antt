@@ -1,13 +1,10 @@
 -- The binary TIME value, by 01's "Values".
+use Rattle.wire.specs.declared.Parsed.{Parsed}
 use Rattle.std.specs.Prelude.{ℕ, ◌+◌, List, eqb}
-use Rattle.refusal.specs.Number.{number}
-use Rattle.refusal.specs.Said.{Said, gives, refused, and_then}
+use Rattle.refusal.specs.Said.{Said, gives, and_then}
 use Rattle.wire.specs.Fields.{since, just}
 use Rattle.wire.specs.LenEnc.{byte_str_at, part_of}
 use Rattle.duration.specs.declared.Time.{Time}
-use Rattle.duration.specs.declared.GotTime.{GotTime}
-use Rattle.duration.specs.declared.ReadTime.{ReadTime}
-use Rattle.duration.specs.declared.ReadTime.TheVariants.{Done, Refused}
 
 -- "Time: 8 or more gives sign (negative only for byte 1), days (4), hour, minute, second; exactly 12 microseconds"
 unfoldable pub time_of : List ℕ → Time
@@ -21,10 +18,5 @@ time_of b = record {
 }
 
 -- a length byte, and "all bytes the length names are used up"; 8 where they are not there
-unfoldable pub time_at : List ℕ → ℕ → Said GotTime
-time_at s at = and_then (byte_str_at s at) (λ b. gives (record { time = time_of (part_of s b.at b.len); next = b.at + b.len }))
-
--- what the reader's answer says
-abbrev pub time_said : ReadTime → Said GotTime
-time_said (Done t) = gives t
-time_said (Refused r) = refused (number r)
+unfoldable pub time_at : List ℕ → ℕ → Said (Parsed Time)
+time_at s at = and_then (byte_str_at s at) (λ b. gives (record { value = time_of (part_of s b.at b.len); next = b.at + b.len }))

@@ -5,16 +5,16 @@
 // bounded first and negated then, and is never cast.
 #![tactic(auto)]
 
-ghost use Rattle.std.specs.Prelude.{◌≡◌, ◌≤◌, nat_abs};
-ghost use Rattle.refusal.specs.Said.{gives};
-ghost use Rattle.duration.specs.Time.{time_of, time_at, time_said};
-ghost use Rattle.duration.specs.Duration.{most, signed, duration_of, duration_said, duration_at, read_said};
+ghost use Rattle.std.specs.Prelude.{◌≡◌, nat_abs};
+ghost use Rattle.refusal.specs.Said.{said_of};
+ghost use Rattle.duration.specs.Time.{time_of, time_at};
+ghost use Rattle.duration.specs.Duration.{duration_of, duration_at};
 
 use refusal::Refusal;
-use wire::ReadStr;
+use wire::Parsed;
 
 // The fields of a TIME value, as they stand in its bytes.
-#[derive(Clone, Copy)]
+#[derive(Clone, Copy, PartialEq, Eq)]
 pub struct Time {
     pub neg: bool,
     pub days: u32,
@@ -24,43 +24,8 @@ pub struct Time {
     pub micros: u32,
 }
 
-// A TIME value that was read, and the place behind it.
-#[derive(Clone, Copy)]
-pub struct GotTime {
-    pub time: Time,
-    pub next: usize,
-}
-
-#[derive(Clone, Copy)]
-pub enum ReadTime {
-    Done(GotTime),
-    Refused(Refusal),
-}
-
-// Signed microseconds; or 11, where no i64 holds them at both signs.
-#[derive(Clone, Copy)]
-pub enum Duration {
-    Micros(i64),
-    Refused(Refusal),
-}
-
-// The duration of a TIME value that was read, and the place behind it.
-#[derive(Clone, Copy)]
-pub struct GotDuration {
-    pub micros: i64,
-    pub next: usize,
-}
-
-#[derive(Clone, Copy)]
-pub enum ReadDuration {
-    Done(GotDuration),
-    Refused(Refusal),
-}
-
-// The largest size of a duration.
-const MOST: u64 = 9_223_372_036_854_775_807;
-
 // What the bytes behind the length byte say. Only sign byte 1 is minus.
+#[tactic(auto, unfolding(crate::specs::Time::time_of))]
 fn time_of(b: &[u8]) -> Time
     ensures { result ≡ time_of b.now }
 {
@@ -75,73 +40,44 @@ fn time_of(b: &[u8]) -> Time
 }
 
 // The TIME value at a place: a length byte, and as many bytes.
-pub fn read_time(s: &[u8], at: usize) -> ReadTime
-    ensures { time_said result ≡ time_at s.now at }
+#[tactic(auto, using(wire::specs::LenEncLaws::byte_str_within), unfolding(crate::specs::Time::time_at))]
+pub fn read_time(s: &[u8], at: usize) -> Result<Parsed<Time>, Refusal>
+    ensures { said_of result ≡ time_at s.now at }
 {
-    match wire::checked_eat_u8_str(s, at) {
-        ReadStr::Done(b) => {
-            let time = time_of(wire::part(s, b.at, b.len));
-            let next = b.at + b.len;
-            ReadTime::Done(GotTime { time, next })
-        }
-        ReadStr::Refused(r) => ReadTime::Refused(r),
-    }
+    let body = wire::checked_eat_u8_str(s, at)?;
+    Ok(Parsed {
+        value: time_of(wire::part(s, body.at, body.len)),
+        next: body.at + body.len,
+    })
 }
 
-// A size with its sign.
-fn with_sign(neg: bool, size: u64) -> Duration
-    requires { size ≤ most }
-    ensures { duration_said result ≡ gives (signed neg size) }
+// The signed microseconds of a TIME value's fields. Their size takes 128 bits: seconds times a million may pass 2^64.
+#[tactic(auto, unfolding(crate::specs::Duration::duration_of))]
+pub fn duration_of(t: Time) -> Result<i64, Refusal>
+    ensures { said_of result ≡ duration_of t }
 {
-    let z = size as i64;
-    if neg {
-        Duration::Micros(-z)
-    } else {
-        Duration::Micros(z)
-    }
-}
-
-// The signed microseconds of a TIME value's fields.
-pub fn duration_of(t: Time) -> Duration
-    ensures { duration_said result ≡ duration_of t }
-{
-    let secs = ((t.days as u64 * 24 + t.hours as u64) * 60 + t.minutes as u64) * 60
+    let seconds = ((t.days as u64 * 24 + t.hours as u64) * 60 + t.minutes as u64) * 60
         + t.seconds as u64;
-    // The seconds are tested by themselves, since their product with a million may pass 2^64.
-    if MOST / 1_000_000 < secs {
-        return Duration::Refused(Refusal::OutOfRange);
-    }
-    let size = secs * 1_000_000 + t.micros as u64;
-    if MOST < size {
-        return Duration::Refused(Refusal::OutOfRange);
-    }
-    with_sign(t.neg, size)
+    let size = seconds as u128 * 1_000_000 + t.micros as u128;
+    let size = i64::try_from(size).map_err(|_| Refusal::OutOfRange)?;
+    Ok(if t.neg { -size } else { size })
 }
 
 // The signed microseconds of the TIME value at a place.
-pub fn read_duration(s: &[u8], at: usize) -> ReadDuration
-    ensures { read_said result ≡ duration_at s.now at }
+#[tactic(auto, unfolding(crate::specs::Duration::duration_at))]
+pub fn read_duration(s: &[u8], at: usize) -> Result<Parsed<i64>, Refusal>
+    ensures { said_of result ≡ duration_at s.now at }
 {
-    match read_time(s, at) {
-        ReadTime::Done(t) => {
-            let next = t.next;
-            match duration_of(t.time) {
-                Duration::Micros(micros) => ReadDuration::Done(GotDuration { micros, next }),
-                Duration::Refused(r) => ReadDuration::Refused(r),
-            }
-        }
-        ReadTime::Refused(r) => ReadDuration::Refused(r),
-    }
+    let time = read_time(s, at)?;
+    Ok(Parsed {
+        value: duration_of(time.value)?,
+        next: time.next,
+    })
 }
 
 // The size of a duration without its sign, for who prints it: no i64 holds that of the smallest.
 pub fn magnitude(micros: i64) -> u64
     ensures { result ≡ nat_abs micros }
 {
-    if micros < 0 {
-        let below = -1 - micros;
-        below as u64 + 1
-    } else {
-        micros as u64
-    }
+    micros.unsigned_abs()
 }

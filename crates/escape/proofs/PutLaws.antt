@@ -1,27 +1,31 @@
 -- What the writers lean on: which bytes become two, what they become in parts, and bytes that lead.
-use Prim.Native.Nat.{ℕ, suc, ◌+◌, ◌-◌, ◌%◌, ◌≤◌, ◌<◌}
+use Prim.Native.Nat.{ℕ, zero, suc, ◌+◌, ◌-◌, ◌*◌, ◌%◌, ◌≤◌, ◌<◌}
 use mathlib.Core.Path.{◌≡◌, refl, sym, ap, ◌∙◌}
 use mathlib.Core.Bool.{Bool, true, false, cond}
 use mathlib.Core.List.{List, [], ◌∷◌, ◌++◌, append_assoc, append-nil}
 use native.Mathlib.Omega.{arith}
 use native.Mathlib.Decide.{ℕ_discrete}
-use native.Mathlib.Nat.{add-zero}
+use native.Mathlib.Nat.{add-zero, zero-mul, suc-mul}
 use native.Mathlib.Numerals.{add-one}
 use lib.ListN.{length, take, drop, set, get_or, length-set, length-append, length-drop, take-append-drop}
-use lib.Seq.{drop-drop, drop-cons, take-suc, take_all, take-add, get_or-drop, get_or-take}
+use lib.Seq.{drop-drop, drop-cons, take-suc, take_all, take-add, get_or-take}
 use lib.Dec.{eqb}
+use mir.Val.{bool_byte as from_bool}
+use Rattle.std.specs.Simd.{first_chunks}
+use Rattle.std.specs.Prelude.{not, None, Some, is_some}
+use Rattle.std.proofs.Common.{true≢false, length-take}
 use borrow.Author.Tests.{ne_eqb, eq-eqb, eqb-true}
 use Rattle.wire.specs.Room.{patch}
 use Rattle.wire.specs.RoomLaws.{patch-append, patch_again, patch_cons, patch_one, patch_two, length-patch}
 use Rattle.escape.specs.Quote.{quote, behind, becomes, body, quoted}
-use Rattle.escape.specs.QuoteLaws.{second_of, more_of, mores, body-length, becomes_itself, becomes_two}
-use Rattle.escape.specs.Turns.{mark_of, Marks, Slots, Leads, Leading}
+use Rattle.escape.specs.QuoteLaws.{second_of, unless_zero, more_of, mores, mores-most, body-length, quoted-length, becomes_itself, becomes_two}
+use Rattle.escape.specs.Turns.{mark_of, Marks, Slots, Leads, Leading, lead_of}
 use Rattle.wire.specs.TableLaws.{every, every_at, tells, told_at}
 
 -- ---- which bytes become two, as a sum of comparisons
 
 abbrev pub whether : (b c : ℕ) → ℕ
-whether b c = cond (eqb b c) 1 0
+whether b c = from_bool (eqb b c)
 
 abbrev pub marks : ℕ → ℕ
 marks b = whether b 0x00 + whether b 0x0A + whether b 0x0D + whether b 0x1A + whether b 0x5C + whether b 0x27 + whether b 0x22
@@ -63,7 +67,7 @@ pub doubles_are : (b : ℕ) → whether b 0x27 ≡ more_of true b
 unfolding second_of
 doubles_are b = by (eqb b quote)
   where
-    by : (t : Bool) → ◌≡◌ {A = ℕ} (cond t 1 0) (cond (eqb (cond t quote 0) 0) 0 1)
+    by : (t : Bool) → ◌≡◌ {A = ℕ} (from_bool t) (cond (eqb (cond t quote 0) 0) 0 1)
     by true = refl
     by false = refl
 
@@ -103,6 +107,19 @@ leads_join {a} {b} {d} {at} {d'} {d''} p q e =
           ∙ ap (patch d at) (sym (append_assoc a b x));
     }
 
+-- the second byte by an option
+pub unless_none : (n : ℕ) → unless_zero n ≡ None → n ≡ 0
+unless_none n e = elim (ℕ_discrete n 0) [
+  | yes z ↦ z
+  | no a ↦ let f : Some n ≡ None = rw (ne_eqb n 0 a) at e in absurd (cc)
+]
+
+pub unless_some : (n : ℕ) {k : ℕ} → unless_zero n ≡ Some k → (n ≡ 0 → ⊥) × (k ≡ n)
+unless_some n {k} e = elim (ℕ_discrete n 0) [
+  | yes z ↦ let f : None ≡ Some k = rw (eq-eqb n 0 z) at e in absurd (cc)
+  | no a ↦ let f : Some n ≡ Some k = rw (ne_eqb n 0 a) at e in (a, cc)
+]
+
 -- ---- one byte
 
 pub leading_one : (m : Bool) (b : ℕ) {xs d : List ℕ} {at r : ℕ} {d' : List ℕ} → becomes m b ≡ xs → r ≡ at + length xs → Leads xs d at d'
@@ -112,24 +129,33 @@ leading_one m b e k p =
     let same : body m (b ∷ []) ≡ _ = append-nil (becomes m b) ∙ e in
     record { place = rw same k; leads = rw same p }
 
--- two bytes are written, of which the second may be one too many: by the short list
-module _ (l : List ℕ) (s : Slots l) (d : List ℕ) (at b : ℕ) (h : at + 2 ≤ length d) where
-  abbrev key : ℕ
-  key = get_or l (b % 32) 0
+-- two bytes are written, of which the second may be one too many
+pub leading_pair : (d : List ℕ) (at b second : ℕ) (escapes : Bool) → at + 2 ≤ length d → escapes ≡ not (eqb (behind b) 0) → (escapes ≡ true → second ≡ behind b)
+    → Leading false (b ∷ []) d at (at + (lead_of b escapes).1) (set (set d at (lead_of b escapes).0) (at + 1) second)
+unfolding second_of
+leading_pair d at b second true h e s = elim (ℕ_discrete (behind b) 0) [
+  | yes z ↦ absurd (true≢false (e ∙ simp (eq-eqb (behind b) 0 z)))
+  | no n ↦
+      leading_one false b (becomes_two false b n ∙ ap (λ (y : ℕ). 0x5C ∷ y ∷ []) (sym (s refl))) refl
+      (leads_put (0x5C ∷ second ∷ []) d at (patch_two d at 0x5C second h))
+]
+leading_pair d at b second false h e s = elim (ℕ_discrete (behind b) 0) [
+  | yes z ↦ leading_one false b (becomes_itself false b z) refl (leads-over (b ∷ []) d at second (patch_two d at b second h) h)
+  | no n ↦ absurd (true≢false (sym (e ∙ simp (ne_eqb (behind b) 0 n))))
+]
 
-  pub escape_leading : {r : ℕ} → r ≡ at + cond (eqb key b) 2 1
-      → Leading false (b ∷ []) d at r (set (set d at (cond (eqb key b) 0x5C b)) (at + 1) (get_or l (b % 32 + 32) 0))
-  unfolding second_of
-  escape_leading e = elim (ℕ_discrete (behind b) 0) [
-    | yes z ↦
-        let miss = ne_eqb key b (s.unlisted b z) in
-        rw (miss) (leading_one false b (becomes_itself false b z) (rw (miss) at e)
-        (leads-over (b ∷ []) d at _ (patch_two d at b (get_or l (b % 32 + 32) 0) h) h))
-    | no n ↦
-        let hit = eq-eqb key b (s.listed b n).0 in
-        rw (hit, (s.listed b n).1) (leading_one false b (becomes_two false b n) (rw (hit) at e)
-        (leads_put (0x5C ∷ behind b ∷ []) d at (patch_two d at 0x5C (behind b) h)))
-  ]
+-- whether a byte is one of them: by the short list
+pub slots_tell : (l : List ℕ) → Slots l → (b : ℕ) → eqb (get_or l (b % 32) 0) b ≡ not (eqb (behind b) 0)
+slots_tell l s b = elim (ℕ_discrete (behind b) 0) [
+  | yes z ↦ ne_eqb (get_or l (b % 32) 0) b (s.unlisted b z) ∙ sym (simp (eq-eqb (behind b) 0 z))
+  | no n ↦ eq-eqb (get_or l (b % 32) 0) b (s.listed b n).0 ∙ sym (simp (ne_eqb (behind b) 0 n))
+]
+
+pub slots_second : (l : List ℕ) → Slots l → (b : ℕ) → eqb (get_or l (b % 32) 0) b ≡ true → get_or l (b % 32 + 32) 0 ≡ behind b
+slots_second l s b e = elim (ℕ_discrete (behind b) 0) [
+  | yes z ↦ absurd (true≢false (sym e ∙ ne_eqb (get_or l (b % 32) 0) b (s.unlisted b z)))
+  | no n ↦ (s.listed b n).1
+]
 
 -- no mark is the point
 not_point : (b : ℕ) → behind b ≡ 0x2E → ⊥
@@ -139,28 +165,17 @@ not_point =
     (λ e. absurd (omega arith)) (λ e. absurd (omega arith)) (λ e. absurd (omega arith)) (λ b z _ e. absurd (omega arith))
 
 -- ... and by the list of all
-pub listed_leading : (d : List ℕ) (at b mark : ℕ) {r : ℕ} → at + 2 ≤ length d → mark ≡ mark_of b → r ≡ at + cond (eqb mark 0x2E) 1 2
-    → Leading false (b ∷ []) d at r (set (set d at (cond (eqb mark 0x2E) b 0x5C)) (at + 1) mark)
-unfolding second_of
-listed_leading d at b mark h k e = elim (ℕ_discrete (behind b) 0) [
-  | yes z ↦
-      let point : mark ≡ 0x2E = k ∙ simp (eq-eqb (behind b) 0 z) in
-      let is = eq-eqb mark 0x2E point in
-      rw is (leading_one false b (becomes_itself false b z) (rw is at e) (leads-over (b ∷ []) d at mark (patch_two d at b mark h) h))
-  | no n ↦
-      let second : mark ≡ behind b = k ∙ simp (ne_eqb (behind b) 0 n) in
-      let is = ne_eqb mark 0x2E (λ p. not_point b (sym second ∙ p)) in
-      rw is (leading_one false b (becomes_two false b n ∙ ap (λ (y : ℕ). 0x5C ∷ y ∷ []) (sym second)) (rw is at e)
-      (leads_put (0x5C ∷ mark ∷ []) d at (patch_two d at 0x5C mark h)))
+pub marks_tell : (l : List ℕ) → Marks l → (b : ℕ) → b < 256 → not (eqb (get_or l b 0) 0x2E) ≡ not (eqb (behind b) 0)
+marks_tell l s b h = elim (ℕ_discrete (behind b) 0) [
+  | yes z ↦ rw (s.right b h) (simp (eq-eqb (behind b) 0 z))
+  | no n ↦ rw (s.right b h) (simp (ne_eqb (behind b) 0 n, ne_eqb (behind b) 0x2E (not_point b)))
 ]
 
-pub double_two : (b : ℕ) → b ≡ quote → becomes true b ≡ b ∷ b ∷ []
-unfolding becomes
-double_two b e = rw e
-
-pub double_one : (b : ℕ) → (b ≡ quote → ⊥) → becomes true b ≡ b ∷ []
-unfolding becomes
-double_one b n = simp (ne_eqb b quote n)
+pub marks_second : (l : List ℕ) → Marks l → (b : ℕ) → b < 256 → not (eqb (get_or l b 0) 0x2E) ≡ true → get_or l b 0 ≡ behind b
+marks_second l s b h e = elim (ℕ_discrete (behind b) 0) [
+  | yes z ↦ absurd (true≢false (sym e ∙ marks_tell l s b h ∙ simp (eq-eqb (behind b) 0 z)))
+  | no n ↦ s.right b h ∙ simp (ne_eqb (behind b) 0 n)
+]
 
 -- ---- the lists that the code has
 
@@ -223,10 +238,6 @@ mores_part m s i k =
     ∙ mores-append m (take k (drop i s)) (drop k (drop i s))
     ∙ ap (λ (x : List ℕ). mores m (take k (drop i s)) + mores m x) (drop-drop k i s)
 
--- a part more that has none
-pub clean_on : (m : Bool) (s : List ℕ) (i k : ℕ) → mores m (take i s) ≡ 0 → mores m (take k (drop i s)) ≡ 0 → mores m (take (i + k) s) ≡ 0
-clean_on m s i k p q = ap (mores m) (take-add i k s) ∙ omega (arith, p, q, mores-append m (take i s) (take k (drop i s)))
-
 -- parts that cover all
 clean_all : (m : Bool) (s : List ℕ) (i j k : ℕ) → j ≤ i → length s ≤ j + k → mores m (take i s) ≡ 0 → mores m (take k (drop j s)) ≡ 0 → mores m s ≡ 0
 clean_all m s i j k h l p q =
@@ -252,16 +263,46 @@ clean_last m s i j k n h l p e = elim (ℕ_discrete n 0) [
   | no a ↦ ne_eqb n 0 a ∙ clean_no m s j k n e a
 ]
 
+-- one of the parts of n bytes
+part_at : (n k : ℕ) (s d : List ℕ) (i : ℕ) → i < k → get_or (first_chunks n k s) i d ≡ take n (drop (i * n) s)
+part_at n zero s d i h = absurd (omega arith)
+part_at n (suc k) s d zero h = rw zero-mul
+part_at n (suc k) s d (suc i) h =
+    let next : n + i * n ≡ suc i * n = omega (arith, suc-mul i n) in
+    part_at n k (drop n s) d i (omega arith) ∙ ap (take n) (drop-drop (i * n) n s ∙ ap (λ (j : ℕ). drop j s) next)
+
+pub part_is : (n k : ℕ) (s d : List ℕ) (i : ℕ) {ps : List (List ℕ)} → ps ≡ first_chunks n k s → i < k → get_or ps i d ≡ take n (drop (i * n) s)
+part_is n k s d i e h = ap (λ (qs : List (List ℕ)). get_or qs i d) e ∙ part_at n k s d i h
+
+-- those before a part, and with it
+pub mores_on : (m : Bool) (s : List ℕ) (n i : ℕ) → mores m (take ((i + 1) * n) s) ≡ mores m (take (i * n) s) + mores m (take n (drop (i * n) s))
+mores_on m s n i =
+    let next : (i + 1) * n ≡ i * n + n = rw add-one (suc-mul i n) in
+    ap (λ (j : ℕ). mores m (take j s)) next ∙ ap (mores m) (take-add (i * n) n s) ∙ mores-append m (take (i * n) s) (take n (drop (i * n) s))
+
+-- a front, and what is left
+pub mores_split : (m : Bool) (s : List ℕ) (i : ℕ) → mores m s ≡ mores m (take i s) + mores m (drop i s)
+mores_split m s i = ap (mores m) (sym (take-append-drop i s)) ∙ mores-append m (take i s) (drop i s)
+
 -- one byte further
-pub mores-step : (m : Bool) (s : List ℕ) (i j : ℕ) → i + j < length s
-    → mores m (take (j + 1) (drop i s)) ≡ mores m (take j (drop i s)) + more_of m (get_or s (i + j) 0)
+pub mores_step : (m : Bool) (s : List ℕ) (i : ℕ) → i < length s → mores m (take (i + 1) s) ≡ mores m (take i s) + more_of m (get_or s i 0)
 unfolding mores
-mores-step m s i j h =
-    let l : j < length (drop i s) = omega (arith, length-drop i s) in
-    let one = get_or s (i + j) 0 ∷ [] in
-    let e : take (j + 1) (drop i s) ≡ take j (drop i s) ++ one =
-    rw add-one (take-suc (drop i s) j 0 l ∙ ap (λ (b : ℕ). take j (drop i s) ++ (b ∷ [])) (get_or-drop i s j 0)) in
-    ap (mores m) e ∙ omega (arith, mores-append m (take j (drop i s)) one)
+mores_step m s i h =
+    let one = get_or s i 0 ∷ [] in
+    let e : take (i + 1) s ≡ take i s ++ one = rw add-one (take-suc s i 0 h) in
+    ap (mores m) e ∙ omega (arith, mores-append m (take i s) one)
+
+-- of a part no more than all bytes
+pub mores_taken : (m : Bool) (s : List ℕ) (i : ℕ) → mores m (take i s) ≤ i
+mores_taken m s i = omega (arith, mores-most m (take i s), length-take i s)
+
+-- a byte more or none, as the code tells it
+pub more_is : (m : Bool) (b : ℕ) → from_bool (is_some (unless_zero (second_of m b))) ≡ more_of m b
+more_is m b = by (eqb (second_of m b) 0)
+  where
+    by : (t : Bool) → from_bool (is_some (cond t None (Some (second_of m b)))) ≡ cond t 0 1
+    by true = refl
+    by false = refl
 
 -- what comes behind the first i bytes
 body-split : (m : Bool) (s : List ℕ) (i : ℕ) → length (body m s) ≡ length (body m (take i s)) + length (body m (drop i s))
@@ -341,6 +382,9 @@ leading_copy m bs d at r z k e =
     let same = body_clean m bs z in
     record { place = rw same k; leads = rw same (leads_put bs d at e) }
 
+pub leading_clean : (m : Bool) (bs d : List ℕ) (at : ℕ) {d' : List ℕ} → eqb (mores m bs) 0 ≡ true → d' ≡ patch d at bs → Leading m bs d at (at + length bs) d'
+leading_clean m bs d at z e = leading_copy m bs d at (at + length bs) (eqb-true (mores m bs) 0 z) refl e
+
 -- ---- the quotes around them
 
 pub quoted-size : (m : Bool) (bs : List ℕ) → length (quoted m bs) ≡ length (body m bs) + 2
@@ -361,3 +405,15 @@ leading_closed m bs d at r {d'} l k p =
           ∙ p.leads.then (quote ∷ []) (omega arith) (omega (arith, q, s))
           ∙ patch_cons d at quote (body m bs ++ (quote ∷ [])) (omega (arith, q, n)),
     )
+
+-- ---- what the functions lean on
+
+pub ruleset copies = (leading_clean, room_part, body-length)
+
+pub ruleset counts = (part_is, mores_on, mores_split, mores-most, clean_no, clean_last)
+
+pub ruleset sizes = (quoted-length, mores-most)
+
+pub ruleset bytes = (body-room, body_byte, room-rest, leading_all)
+
+pub ruleset closed = (quoted-size, leading_closed)

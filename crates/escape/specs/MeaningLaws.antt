@@ -1,9 +1,9 @@
 -- What is written means what was given, and the server's literal ends where ours does.
-use Rattle.std.specs.Prelude.{ℕ, ◌+◌, ◌≤◌, ◌<◌, ◌≡◌, refl, Bool, true, false, List, [], ◌∷◌, ◌++◌, length, take, drop, get_or, eqb}
+use Rattle.refusal.specs.declared.Refusal.{Refusal}
+use Rattle.std.specs.Prelude.{ℕ, ◌+◌, ◌≤◌, ◌<◌, ◌≡◌, refl, Bool, true, false, List, [], ◌∷◌, ◌++◌, length, take, drop, get_or, eqb, Result}
 use Rattle.std.proofs.Common.{arith, sym, ap, ◌∙◌, append_assoc, append-nil, length-append, length-take, drop_at, get_or-drop, add-zero, eqb-true, ne_eqb}
 use Rattle.wire.specs.Room.{Wrote}
 use Rattle.wire.specs.RoomLaws.{wrote_left}
-use Rattle.wire.specs.declared.Put.{Put}
 use Rattle.escape.specs.Quote.{quote, backslash, behind, becomes, body, quoted}
 use Rattle.escape.specs.Meaning.{literal, also, escape_means, inside, literal_of, meaning, meaning_of}
 
@@ -72,7 +72,7 @@ pub quoted_same : (m : Bool) (bs cs : List ℕ) → quoted m bs ≡ quoted m cs 
 quoted_same m bs cs e = sym (quoted_means m bs) ∙ ap (meaning m) e ∙ quoted_means m cs
 
 -- In the buffer that `escaped` wrote, a server that reads from the place on finds the bytes, and behind them what stood there.
-pub escaped_read : (m : Bool) (bs d : List ℕ) (at : ℕ) {r : Put} {d' : List ℕ} → Wrote (quoted m bs) d at r d' → at + length (quoted m bs) ≤ length d
+pub escaped_read : (m : Bool) (bs d : List ℕ) (at : ℕ) {r : Result ℕ Refusal} {d' : List ℕ} → Wrote (quoted m bs) d at r d' → at + length (quoted m bs) ≤ length d
     → (get_or d (at + length (quoted m bs)) 0 ≡ quote → ⊥) → literal_of m (drop at d') ≡ literal bs (drop (at + length (quoted m bs)) d)
 escaped_read m bs d at w h n =
     let rest = drop (at + length (quoted m bs)) d in

@@ -1,5 +1,5 @@
 -- Laws of the quoted form: a byte becomes itself, or a first byte of its mode's and a second one of its own.
-use Rattle.std.specs.Prelude.{ℕ, suc, ◌+◌, ◌≤◌, ◌<◌, ◌^◌, ◌≡◌, refl, Bool, true, false, cond, List, [], ◌∷◌, length, drop, get_or, eqb, ltb}
+use Rattle.std.specs.Prelude.{ℕ, suc, ◌+◌, ◌≤◌, ◌<◌, ◌^◌, ◌≡◌, refl, Bool, true, false, cond, List, [], ◌∷◌, length, drop, get_or, eqb, ltb, Option, None, Some}
 use Rattle.std.proofs.Common.{ap, arith, length-append, drop-cons, eqb-true, ltb-false, eq-eqb, ne_eqb}
 use Rattle.std.proofs.lemmas.Bool.{eqb-false}
 use Rattle.escape.specs.Quote.{quote, backslash, behind, becomes, body, quoted}
@@ -12,6 +12,10 @@ first_of no_backslash = cond no_backslash quote backslash
 
 unfoldable pub second_of : Bool → ℕ → ℕ
 second_of no_backslash b = cond no_backslash (cond (eqb b quote) quote 0) (behind b)
+
+-- ... which the code says by an option
+abbrev pub unless_zero : ℕ → Option ℕ
+unless_zero n = cond (eqb n 0) None (Some n)
 
 pub becomes_itself : (m : Bool) (b : ℕ) → second_of m b ≡ 0 → becomes m b ≡ b ∷ []
 unfolding becomes second_of

@@ -23,6 +23,10 @@ pub record Slots (l : List ℕ) : Type 0 where
 
 -- ---- writing
 
+-- the first byte of what a byte becomes in backslash mode, and how many there are
+abbrev pub lead_of : ℕ → Bool → ℕ × ℕ
+lead_of b escapes = cond escapes (0x5C, 2) (b, 1)
+
 -- xs stands at a place of d, and the byte behind it may be overwritten: with anything behind it, x, that is not empty, the buffer is as if
 -- only xs and x had been written
 pub record Leads (xs d : List ℕ) (at : ℕ) (d' : List ℕ) : Type 0 where
@@ -33,8 +37,8 @@ pub record Leading (m : Bool) (bs d : List ℕ) (at r : ℕ) (d' : List ℕ) : T
   pub place : r ≡ at + length (body m bs)
   pub leads : Leads (body m bs) d at d'
 
--- a turn from byte i on: it comes to a later one, and has written what those between become
-pub record Came (m : Bool) (bs d : List ℕ) (at i : ℕ) (t : Step) (d' : List ℕ) : Type 0 where
-  pub on : i < t.from
+-- a turn, from a step on: it comes to a later byte, and has written what those between become
+pub record Came (m : Bool) (bs d : List ℕ) (s t : Step) (d' : List ℕ) : Type 0 where
+  pub on : s.from < t.from
   pub within : t.from ≤ length bs
-  pub leading : Leading m (take (t.from - i) (drop i bs)) d at t.next d'
+  pub leading : Leading m (take (t.from - s.from) (drop s.from bs)) d s.next t.next d'

@@ -5,14 +5,15 @@
 // of a longer character is 0x5C, 0x27 or 0x22: utf8mb4, latin1, ascii and binary are; gbk, sjis and big5 are not.
 #![tactic(auto)]
 
-ghost use Rattle.std.specs.Prelude.{◌≡◌, ◌+◌, ◌%◌, ◌≤◌, ◌<◌, [], ◌∷◌, length, take, drop, leb, eqb, true, false, cond};
+ghost use Rattle.refusal.specs.Said.{said_of};
+ghost use Rattle.std.specs.Prelude.{◌≡◌, ◌+◌, ◌≤◌, ◌<◌, Bool, [], ◌∷◌, length, drop, leb, eqb, not, true, false};
 ghost use Rattle.escape.specs.Quote.{quoted, behind, becomes, body};
-ghost use Rattle.escape.specs.QuoteLaws.{first_of, second_of, more_of, mores};
-ghost use Rattle.escape.specs.Turns.{Slots, Marks, Leading, Came};
-ghost use Rattle.wire.specs.Room.{Wrote, patch, length_of, needed_said};
+ghost use Rattle.escape.specs.QuoteLaws.{first_of, second_of, unless_zero, more_of, mores};
+ghost use Rattle.escape.specs.Turns.{Slots, Marks, Leading, Came, lead_of};
+ghost use Rattle.wire.specs.Room.{Wrote, patch, length_of};
 
 use refusal::Refusal;
-use wire::{Needed, Put, inner};
+use wire::inner;
 
 // What stands behind the backslash, for each byte, and a point where it stands for itself.
 const ALL: [u8; 256] = *b"0.........n..r............Z.......\"....'........................\
@@ -20,28 +21,30 @@ const ALL: [u8; 256] = *b"0.........n..r............Z.......\"....'.............
     ................................................................\
     ................................................................";
 
-// The byte behind the backslash, or 0 where a byte stands for itself.
-fn escape_of(b: u8) -> u8
-    ensures { result ≡ behind b }
+// The byte behind the backslash, unless a byte stands for itself.
+#[tactic(auto, unfolding(crate::specs::Quote::behind))]
+fn escape_of(b: u8) -> Option<u8>
+    ensures { result ≡ unless_zero (behind b) }
 {
     match b {
-        0x00 => 0x30,
-        0x0A => 0x6E,
-        0x0D => 0x72,
-        0x1A => 0x5A,
-        0x5C => 0x5C,
-        0x27 => 0x27,
-        0x22 => 0x22,
-        _ => 0,
+        0x00 => Some(0x30),
+        0x0A => Some(0x6E),
+        0x0D => Some(0x72),
+        0x1A => Some(0x5A),
+        0x5C => Some(0x5C),
+        0x27 => Some(0x27),
+        0x22 => Some(0x22),
+        _ => None,
     }
 }
 
-// The second of the two bytes that a byte becomes, or 0 where it stands for itself.
-fn second_of(b: u8, no_backslash_escape: bool) -> u8
-    ensures { result ≡ second_of no_backslash_escape b }
+// The second of the two bytes that a byte becomes, unless it stands for itself.
+#[tactic(auto, unfolding(crate::specs::QuoteLaws::second_of))]
+fn second_of(b: u8, no_backslash_escape: bool) -> Option<u8>
+    ensures { result ≡ unless_zero (second_of no_backslash_escape b) }
 {
     if no_backslash_escape {
-        if b == 0x27 { 0x27 } else { 0 }
+        (b == 0x27).then_some(0x27)
     } else {
         escape_of(b)
     }
@@ -54,75 +57,61 @@ fn first_of(no_backslash_escape: bool) -> u8
     if no_backslash_escape { 0x27 } else { 0x5C }
 }
 
-// How many bytes a byte takes beside the first.
-fn more_by(b: u8, no_backslash_escape: bool) -> usize
-    ensures { result ≡ more_of no_backslash_escape b }
-{
-    if second_of(b, no_backslash_escape) == 0 {
-        0
-    } else {
-        1
-    }
-}
-
 // How many bytes become two, for fewer than 8: so few go by branches faster than by anything that has to be set up.
+#[tactic(auto, using(crate::proofs::PutLaws::mores_step, crate::proofs::PutLaws::mores_taken, crate::proofs::PutLaws::more_is), unfolding(crate::specs::QuoteLaws::mores))]
 fn mores_few(input: &[u8], no_backslash_escape: bool) -> usize
     ensures { result ≡ mores no_backslash_escape input.now }
 {
-    let mut n: usize = 0;
-    let mut i = 0;
-    while i < input.len() {
-        n += more_by(input[i], no_backslash_escape);
-        i += 1;
+    let mut n = 0;
+    for &b in input {
+        n += usize::from(second_of(b, no_backslash_escape).is_some());
     }
     n
 }
 
-// 1 if a byte is another, else 0.
-fn is(b: u8, other: u8) -> u8
-    ensures { (result ≡ cond (eqb b other) 1 0) × (result ≤ 1) }
-{
-    if b == other { 1 } else { 0 }
-}
-
 // How many bytes a byte takes beside the first, 0 or 1. As a sum of comparisons: of that the compiler makes one test of many bytes.
+#[tactic(auto, using(crate::proofs::PutLaws::marks_are, crate::proofs::PutLaws::doubles_are, crate::proofs::PutLaws::more_most))]
 fn more_of(b: u8, no_backslash_escape: bool) -> u8
     ensures { (result ≡ more_of no_backslash_escape b) × (result ≤ 1) }
 {
     if no_backslash_escape {
-        return is(b, 0x27);
+        return u8::from(b == 0x27);
     }
-    is(b, 0x00) + is(b, 0x0A) + is(b, 0x0D) + is(b, 0x1A) + is(b, 0x5C) + is(b, 0x27) + is(b, 0x22)
+    u8::from(b == 0x00)
+        + u8::from(b == 0x0A)
+        + u8::from(b == 0x0D)
+        + u8::from(b == 0x1A)
+        + u8::from(b == 0x5C)
+        + u8::from(b == 0x27)
+        + u8::from(b == 0x22)
 }
 
 // How many bytes of a part become two.
-fn mores_in(input: &[u8], i: usize, k: usize, no_backslash_escape: bool) -> u8
-    requires { (k ≤ 64) × (i + k ≤ length input.now) }
-    ensures { result ≡ mores no_backslash_escape (take k (drop i input.now)) }
+#[tactic(auto, using(crate::proofs::PutLaws::mores_step, crate::proofs::PutLaws::mores_taken), unfolding(crate::specs::QuoteLaws::mores))]
+fn mores_in(part: &[u8], no_backslash_escape: bool) -> u8
+    requires { length part.now ≤ 64 }
+    ensures { result ≡ mores no_backslash_escape part.now }
 {
-    let mut n: u8 = 0;
-    let mut j = 0;
-    while j < k {
-        n += more_of(input[i + j], no_backslash_escape);
-        j += 1;
+    let mut n = 0;
+    for &b in part {
+        n += more_of(b, no_backslash_escape);
     }
     n
 }
 
-// Whether no byte becomes two, by parts of k, each one test; the last may overlap the one before it.
-fn clean_by(input: &[u8], k: usize, no_backslash_escape: bool) -> bool
-    requires { (0 < k) × (k ≤ 64) × (k ≤ length input.now) }
+// Whether no byte becomes two, by parts of K, each one test; the last may overlap the one before it.
+#[tactic(auto, using(crate::proofs::PutLaws::counts))]
+fn clean_by<const K: usize>(input: &[u8], no_backslash_escape: bool) -> bool
+    requires { (0 < K) × (K ≤ 64) × (K ≤ length input.now) }
     ensures { result ≡ eqb (mores no_backslash_escape input.now) 0 }
 {
-    let n = input.len();
-    let mut i = 0;
-    while k < n - i {
-        if mores_in(input, i, k, no_backslash_escape) != 0 {
+    let (parts, rest) = input.as_chunks::<K>();
+    for part in parts {
+        if mores_in(part, no_backslash_escape) != 0 {
             return false;
         }
-        i += k;
     }
-    mores_in(input, n - k, k, no_backslash_escape) == 0
+    rest.is_empty() || mores_in(&input[input.len() - K..], no_backslash_escape) == 0
 }
 
 // The same, by parts as wide as the input allows.
@@ -131,188 +120,144 @@ fn clean(input: &[u8], no_backslash_escape: bool) -> bool
     ensures { result ≡ eqb (mores no_backslash_escape input.now) 0 }
 {
     if input.len() < 16 {
-        return clean_by(input, 8, no_backslash_escape);
+        return clean_by::<8>(input, no_backslash_escape);
     }
     if input.len() < 64 {
-        return clean_by(input, 16, no_backslash_escape);
+        return clean_by::<16>(input, no_backslash_escape);
     }
-    clean_by(input, 64, no_backslash_escape)
+    clean_by::<64>(input, no_backslash_escape)
 }
 
 // How many bytes become two.
+#[tactic(auto, using(crate::proofs::PutLaws::counts))]
 fn mores(input: &[u8], no_backslash_escape: bool) -> usize
     ensures { result ≡ mores no_backslash_escape input.now }
 {
     if input.len() < 8 {
         return mores_few(input, no_backslash_escape);
     }
-    let mut n: usize = 0;
-    let mut i = 0;
-    while 64 <= input.len() - i {
-        n += mores_in(input, i, 64, no_backslash_escape) as usize;
-        i += 64;
+    let (parts, rest) = input.as_chunks::<64>();
+    let mut n = 0;
+    for part in parts {
+        n += usize::from(mores_in(part, no_backslash_escape));
     }
-    n + mores_in(input, i, input.len() - i, no_backslash_escape) as usize
+    n + usize::from(mores_in(rest, no_backslash_escape))
 }
 
 // How many bytes `escaped` writes.
-pub fn escaped_len(input: &[u8], no_backslash_escape: bool) -> Needed
-    ensures { needed_said result ≡ length_of (quoted no_backslash_escape input.now) }
+pub fn escaped_len(input: &[u8], no_backslash_escape: bool) -> Result<usize, Refusal>
+    ensures { said_of result ≡ length_of (quoted no_backslash_escape input.now) }
 {
-    let more = mores(input, no_backslash_escape);
-    let left = 0xFFFF_FFFF_FFFF_FFFF - input.len();
-    if left < 2 {
-        return Needed::Refused(Refusal::NoRoom);
-    }
-    if left - 2 < more {
-        return Needed::Refused(Refusal::NoRoom);
-    }
-    Needed::Bytes(input.len() + more + 2)
+    let n = input
+        .len()
+        .checked_add(mores(input, no_backslash_escape))
+        .ok_or(Refusal::NoRoom)?;
+    n.checked_add(2).ok_or(Refusal::NoRoom)
 }
 
-// What one byte becomes, and the place behind it, by branches.
-fn put_byte(dst: &mut [u8], at: usize, b: u8, no_backslash_escape: bool) -> usize
-    requires { (at + 2 ≤ length dst.old) × (at + length (becomes no_backslash_escape b) + 1 ≤ length dst.old) }
-    ensures { Leading no_backslash_escape (b ∷ []) dst.old at result dst.new }
-{
-    let second = second_of(b, no_backslash_escape);
-    if second == 0 {
-        dst[at] = b;
-        at + 1
-    } else {
-        dst[at] = first_of(no_backslash_escape);
-        dst[at + 1] = second;
-        at + 2
-    }
+// ---- bytes, one by one
+
+// A way to write what a byte becomes, and the place behind it.
+trait Put {
+    // The mode NO_BACKSLASH_ESCAPES, or the other.
+    ghost mode: { Self → Bool };
+
+    fn put(&self, dst: &mut [u8], at: usize, b: u8) -> usize
+        requires { (at + 2 ≤ length dst.old) × (at + length (becomes (mode self.now) b) + 1 ≤ length dst.old) }
+        ensures { Leading (mode self.now) (b ∷ []) dst.old at result dst.new };
 }
 
-// The same of fewer than 8 bytes, one by one, where something has to follow.
-fn put_few(dst: &mut [u8], at: usize, src: &[u8], no_backslash_escape: bool) -> usize
-    requires { at + length (body no_backslash_escape src.now) + 1 ≤ length dst.old }
-    ensures { Leading no_backslash_escape src.now dst.old at result dst.new }
+// The bytes of src, where something has to follow.
+#[tactic(auto, using(crate::proofs::PutLaws::bytes))]
+fn put_each<P: Put>(dst: &mut [u8], at: usize, src: &[u8], by: &P) -> usize
+    requires { at + length (body (P.mode by.now) src.now) + 1 ≤ length dst.old }
+    ensures { Leading (P.mode by.now) src.now dst.old at result dst.new }
 {
     let mut next = at;
-    let mut i = 0;
-    while i < src.len() {
-        next = put_byte(dst, next, src[i], no_backslash_escape);
-        i += 1;
+    for &b in src {
+        next = by.put(dst, next, b);
     }
     next
 }
 
-// Where a byte stands in the short list of marks, if it is there: no two of those that get a backslash share a slot.
-fn slot(b: u8) -> usize
-    ensures { result ≡ b % 32 }
-{
-    b as usize % 32
+// By branches, in the mode that is given: for few bytes, or where only quotes are doubled.
+#[derive(Clone, Copy)]
+struct Branches(bool);
+
+impl Put for Branches {
+    ghost mode = { λ s. s.0 };
+
+    fn put(&self, dst: &mut [u8], at: usize, b: u8) -> usize {
+        match second_of(b, self.0) {
+            None => {
+                dst[at] = b;
+                at + 1
+            }
+            Some(second) => {
+                dst[at] = first_of(self.0);
+                dst[at + 1] = second;
+                at + 2
+            }
+        }
+    }
 }
 
-// The first byte of what a byte becomes, and how many there are, by the one that has its place in the list: that is itself or another.
-fn lead_of(b: u8, key: u8) -> u8
-    ensures { result ≡ cond (eqb key b) 0x5C b }
+// The first byte of what a byte becomes in backslash mode, and how many there are.
+fn lead_of(b: u8, escapes: bool) -> (u8, usize)
+    ensures { result ≡ lead_of b escapes }
 {
-    if key == b { 0x5C } else { b }
+    if escapes { (0x5C, 2) } else { (b, 1) }
 }
 
-fn count_of(b: u8, key: u8) -> usize
-    ensures { (result ≡ cond (eqb key b) 2 1) × (result ≤ 2) }
-{
-    if key == b { 2 } else { 1 }
-}
-
-// What a byte becomes with a backslash or without, and the place behind it. Both bytes are written always: branches would be guessed
+// What a byte becomes with a backslash or without, by what would stand behind that. Both bytes are written always: branches would be guessed
 // wrong time and again. If it is one byte only, the second place is written again by what follows, at least the closing quote.
-fn put_escape(dst: &mut [u8], at: usize, b: u8, marks: &[u8]) -> usize
-    requires { (at + 2 ≤ length dst.old) × Slots marks.now × (at + length (becomes false b) + 1 ≤ length dst.old) }
+fn put_pair(dst: &mut [u8], at: usize, b: u8, second: u8, escapes: bool) -> usize
+    requires { (at + 2 ≤ length dst.old) × (escapes ≡ not (eqb (behind b) 0)) × (escapes ≡ true → second ≡ behind b) }
     ensures { Leading false (b ∷ []) dst.old at result dst.new }
 {
-    let i = slot(b);
-    let key = marks[i];
-    let mark = marks[i + 32];
-    dst[at] = lead_of(b, key);
-    dst[at + 1] = mark;
-    at + count_of(b, key)
+    let (first, count) = lead_of(b, escapes);
+    dst[at] = first;
+    dst[at + 1] = second;
+    at + count
 }
 
-// The same of the bytes of src, one by one, where something has to follow.
-fn put_escapes(dst: &mut [u8], at: usize, src: &[u8], marks: &[u8]) -> usize
-    requires { (at + length (body false src.now) + 1 ≤ length dst.old) × Slots marks.now }
-    ensures { Leading false src.now dst.old at result dst.new }
-{
-    let mut next = at;
-    let mut i = 0;
-    while i < src.len() {
-        next = put_escape(dst, next, src[i], marks);
-        i += 1;
+// By a short list of marks: no two of those that get a backslash share a slot.
+#[derive(Clone, Copy)]
+struct Short<'a> {
+    marks: &'a [u8],
+    ghost right: { Slots marks.now },
+}
+
+impl<'a> Put for Short<'a> {
+    ghost mode = { λ _. false };
+
+    fn put(&self, dst: &mut [u8], at: usize, b: u8) -> usize {
+        let slot = b as usize % 32;
+        put_pair(dst, at, b, self.marks[slot + 32], self.marks[slot] == b)
     }
-    next
 }
 
-// The same for long inputs, by a list of all bytes, which takes longer to make and less to look at: what stands behind the backslash, and a
-// point where a byte stands for itself.
-fn lead_by(b: u8, mark: u8) -> u8
-    ensures { result ≡ cond (eqb mark 0x2E) b 0x5C }
-{
-    if mark == 0x2E { b } else { 0x5C }
+// By a list of all bytes, which takes longer to make and less to look at: for long inputs.
+#[derive(Clone, Copy)]
+struct Long<'a> {
+    marks: &'a [u8],
+    ghost right: { Marks marks.now },
 }
 
-fn count_by(mark: u8) -> usize
-    ensures { (result ≡ cond (eqb mark 0x2E) 1 2) × (result ≤ 2) }
-{
-    if mark == 0x2E { 1 } else { 2 }
-}
+impl<'a> Put for Long<'a> {
+    ghost mode = { λ _. false };
 
-fn put_listed(dst: &mut [u8], at: usize, b: u8, all: &[u8]) -> usize
-    requires { (at + 2 ≤ length dst.old) × Marks all.now × (at + length (becomes false b) + 1 ≤ length dst.old) }
-    ensures { Leading false (b ∷ []) dst.old at result dst.new }
-{
-    let mark = all[b as usize];
-    dst[at] = lead_by(b, mark);
-    dst[at + 1] = mark;
-    at + count_by(mark)
-}
-
-fn put_long(dst: &mut [u8], at: usize, src: &[u8], all: &[u8]) -> usize
-    requires { (at + length (body false src.now) + 1 ≤ length dst.old) × Marks all.now }
-    ensures { Leading false src.now dst.old at result dst.new }
-{
-    let mut next = at;
-    let mut i = 0;
-    while i < src.len() {
-        next = put_listed(dst, next, src[i], all);
-        i += 1;
+    fn put(&self, dst: &mut [u8], at: usize, b: u8) -> usize {
+        let mark = self.marks[b as usize];
+        put_pair(dst, at, b, mark, mark != 0x2E)
     }
-    next
 }
 
-// What a byte becomes where only the quote is doubled, and the place behind it.
-fn put_double(dst: &mut [u8], at: usize, b: u8) -> usize
-    requires { (at + 2 ≤ length dst.old) × (at + length (becomes true b) + 1 ≤ length dst.old) }
-    ensures { Leading true (b ∷ []) dst.old at result dst.new }
-{
-    dst[at] = b;
-    if b == 0x27 {
-        dst[at + 1] = b;
-        return at + 2;
-    }
-    at + 1
-}
-
-fn put_doubles(dst: &mut [u8], at: usize, src: &[u8]) -> usize
-    requires { at + length (body true src.now) + 1 ≤ length dst.old }
-    ensures { Leading true src.now dst.old at result dst.new }
-{
-    let mut next = at;
-    let mut i = 0;
-    while i < src.len() {
-        next = put_double(dst, next, src[i]);
-        i += 1;
-    }
-    next
-}
+// ---- the whole
 
 // Whether there is room for the quoted form. Room for twice the bytes and the two quotes is always enough, and spares the
 // counting.
+#[tactic(auto, using(crate::proofs::PutLaws::sizes))]
 fn fits(dst: &[u8], at: usize, input: &[u8], no_backslash_escape: bool) -> bool
     ensures { result ≡ leb (at + length (quoted no_backslash_escape input.now)) (length dst.now) }
 {
@@ -322,10 +267,7 @@ fn fits(dst: &[u8], at: usize, input: &[u8], no_backslash_escape: bool) -> bool
     if input.len() < (dst.len() - at) / 2 {
         return true;
     }
-    match escaped_len(input, no_backslash_escape) {
-        Needed::Bytes(n) => inner::has(dst, at, n),
-        Needed::Refused(_) => false,
-    }
+    escaped_len(input, no_backslash_escape).is_ok_and(|n| inner::has(dst, at, n))
 }
 
 // How far a writer has come: the place in the buffer, and the byte of the input that comes next.
@@ -336,6 +278,7 @@ struct Step {
 }
 
 // An input without a quote is copied: to look for one costs little beside what it may save.
+#[tactic(auto, using(crate::proofs::PutLaws::copies))]
 fn put_doubled(dst: &mut [u8], at: usize, input: &[u8]) -> usize
     requires { (8 ≤ length input.now) × (at + length (body true input.now) + 1 ≤ length dst.old) }
     ensures { Leading true input.now dst.old at result dst.new }
@@ -344,44 +287,47 @@ fn put_doubled(dst: &mut [u8], at: usize, input: &[u8]) -> usize
         inner::copy(dst, at, input);
         return at + input.len();
     }
-    put_doubles(dst, at, input)
+    put_each(dst, at, input, &Branches(true))
 }
 
 // In backslash mode long inputs are tested 16 bytes at a time, and these copied where all of them stand for themselves. Else 128 go one by
 // one before it is tried again, so that an input full of quotes loses little.
-fn turn(dst: &mut [u8], at: usize, input: &[u8], i: usize, all: &[u8]) -> Step
-    requires { (i < length input.now) × (at + length (body false (drop i input.now)) + 1 ≤ length dst.old) × Marks all.now }
-    ensures { Came false input.now dst.old at i result dst.new }
+#[tactic(auto, using(crate::proofs::PutLaws::copies))]
+fn turn(dst: &mut [u8], step: Step, input: &[u8], all: &Long) -> Step
+    requires { (step.from < length input.now) × (step.next + length (body false (drop step.from input.now)) + 1 ≤ length dst.old) }
+    ensures { Came false input.now dst.old step result dst.new }
 {
-    let n = input.len();
-    if n - i < 128 {
-        let next = put_long(dst, at, &input[i..n], all);
-        return Step { next, from: n };
-    }
-    if mores_in(input, i, 16, false) == 0 {
-        inner::copy_sixteen(dst, at, input, i);
+    let Step { next, from } = step;
+    if input.len() - from < 128 {
         return Step {
-            next: at + 16,
-            from: i + 16,
+            next: put_each(dst, next, &input[from..], all),
+            from: input.len(),
         };
     }
-    let from = i + 128;
-    let next = put_long(dst, at, &input[i..from], all);
-    Step { next, from }
+    if mores_in(&input[from..from + 16], false) == 0 {
+        inner::copy(dst, next, &input[from..from + 16]);
+        return Step {
+            next: next + 16,
+            from: from + 16,
+        };
+    }
+    Step {
+        next: put_each(dst, next, &input[from..from + 128], all),
+        from: from + 128,
+    }
 }
 
-fn put_turns(dst: &mut [u8], at: usize, input: &[u8], all: &[u8]) -> usize
-    requires { (at + length (body false input.now) + 1 ≤ length dst.old) × Marks all.now }
+#[tactic(auto, using(crate::proofs::PutLaws::bytes))]
+fn put_turns(dst: &mut [u8], at: usize, input: &[u8], all: &Long) -> usize
+    requires { at + length (body false input.now) + 1 ≤ length dst.old }
     ensures { Leading false input.now dst.old at result dst.new }
 {
-    let mut next = at;
-    let mut i = 0;
-    while i < input.len() {
-        let t = turn(dst, next, input, i, all);
-        next = t.next;
-        i = t.from;
+    let mut step = Step { next: at, from: 0 };
+    // A turn goes on by 16 bytes or by 128.
+    while step.from < input.len() {
+        step = turn(dst, step, input, all);
     }
-    next
+    step.next
 }
 
 // What the bytes become, and the place where the closing quote belongs.
@@ -390,7 +336,7 @@ fn put_body(dst: &mut [u8], at: usize, input: &[u8], no_backslash_escape: bool) 
     ensures { Leading no_backslash_escape input.now dst.old at result dst.new }
 {
     if input.len() < 8 {
-        return put_few(dst, at, input, no_backslash_escape);
+        return put_each(dst, at, input, &Branches(no_backslash_escape));
     }
     if no_backslash_escape {
         return put_doubled(dst, at, input);
@@ -402,15 +348,14 @@ fn put_body(dst: &mut [u8], at: usize, input: &[u8], no_backslash_escape: bool) 
 }
 
 // An input that is not too short is copied if all its bytes stand for themselves.
+#[tactic(auto, using(crate::proofs::PutLaws::copies))]
 fn put_short(dst: &mut [u8], at: usize, input: &[u8]) -> usize
     requires { at + length (body false input.now) + 1 ≤ length dst.old }
     ensures { Leading false input.now dst.old at result dst.new }
 {
-    if 16 <= input.len() {
-        if clean(input, false) {
-            inner::copy(dst, at, input);
-            return at + input.len();
-        }
+    if 16 <= input.len() && clean(input, false) {
+        inner::copy(dst, at, input);
+        return at + input.len();
     }
     put_marked(dst, at, input)
 }
@@ -421,23 +366,20 @@ fn put_marked(dst: &mut [u8], at: usize, input: &[u8]) -> usize
     ensures { Leading false input.now dst.old at result dst.new }
 {
     // The bytes that get a backslash, each at its slot, with quotes at the others; and what then stands behind it.
-    put_escapes(
-        dst,
-        at,
-        input,
-        b"\x00'\"'''''''\x0A''\x0D''''''''''''\x1A'\\'''0'\"'''''''n''r''''''''''''Z'\\'''",
-    )
+    let marks = b"\x00'\"'''''''\x0A''\x0D''''''''''''\x1A'\\'''0'\"'''''''n''r''''''''''''Z'\\'''";
+    put_each(dst, at, input, &Short { marks })
 }
 
 fn put_all(dst: &mut [u8], at: usize, input: &[u8]) -> usize
     requires { at + length (body false input.now) + 1 ≤ length dst.old }
     ensures { Leading false input.now dst.old at result dst.new }
 {
-    let all = ALL;
-    put_turns(dst, at, input, &all)
+    let marks = ALL;
+    put_turns(dst, at, input, &Long { marks: &marks })
 }
 
 // The quoted form, where there is room for it, and the place behind it.
+#[tactic(auto, using(crate::proofs::PutLaws::closed))]
 fn put_quoted(dst: &mut [u8], at: usize, input: &[u8], no_backslash_escape: bool) -> usize
     requires { at + length (quoted no_backslash_escape input.now) ≤ length dst.old }
     ensures { (result ≡ at + length (quoted no_backslash_escape input.now))
@@ -450,13 +392,16 @@ fn put_quoted(dst: &mut [u8], at: usize, input: &[u8], no_backslash_escape: bool
 }
 
 // The bytes quoted for SQL, depending on the `no_backslash_escape` flag: the server's mode NO_BACKSLASH_ESCAPES.
-pub fn escaped(dst: &mut [u8], at: usize, input: &[u8], no_backslash_escape: bool) -> Put
+pub fn escaped(
+    dst: &mut [u8],
+    at: usize,
+    input: &[u8],
+    no_backslash_escape: bool,
+) -> Result<usize, Refusal>
     ensures { Wrote (quoted no_backslash_escape input.now) dst.old at result dst.new }
 {
-    if fits(dst, at, input, no_backslash_escape) {
-        let next = put_quoted(dst, at, input, no_backslash_escape);
-        Put::Next(next)
-    } else {
-        Put::Refused(Refusal::NoRoom)
+    if !fits(dst, at, input, no_backslash_escape) {
+        return Err(Refusal::NoRoom);
     }
+    Ok(put_quoted(dst, at, input, no_backslash_escape))
 }

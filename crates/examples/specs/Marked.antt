@@ -64,7 +64,7 @@ pub record Marked : Type 0 where
   -- time 08 01 00 00 00 00 00 01 00: minus 60,000,000
   pub E6 :
       duration_at (0x08 ∷ 0x01 ∷ 0x00 ∷ 0x00 ∷ 0x00 ∷ 0x00 ∷ 0x00 ∷ 0x01 ∷ 0x00 ∷ []) 0
-      ≡ gives (record { micros = negsuc 59999999; next = 9 })
+      ≡ gives (record { value = negsuc 59999999; next = 9 })
   -- 106,751,991 days 4:00:54.775807 accepted; one microsecond more: 11
   pub E7-most :
       duration_of (record { neg = false; days = 106751991; hours = 4; minutes = 0; seconds = 54; micros = 775807 })

@@ -1,29 +1,18 @@
 -- Bytes moved inside a list.
-use Rattle.std.proofs.Common.{◌≡◌, ℕ, zero, suc, ◌+◌, ◌-◌, ◌<◌, ◌≤◌, List, [], ◌∷◌, ◌++◌, length, get_or, take, drop, set, sym, ap, ◌∙◌}
-use Rattle.std.proofs.Common.{arith, length-append, length-drop, take-append-drop, length-take, get_or-drop, take_all, get_or-take, drop-drop}
-use Rattle.std.proofs.Common.{take_at, get_or-append-add, take-add}
+use Rattle.std.proofs.Common.{◌≡◌, ℕ, zero, suc, ◌+◌, ◌-◌, ◌≤◌, List, [], ◌∷◌, ◌++◌, length, take, drop, sym, ap, ◌∙◌}
+use Rattle.std.proofs.Common.{arith, length-append, length-drop, length-take, take_all, drop-drop}
+use Rattle.std.proofs.Common.{take_at, take-append-drop, take-add}
 use native.Mathlib.Nat.{sub-zero}
-use lib.Seq.{drop-append-add, paste, length_paste_head, paste-suc}
+use lib.Seq.{drop-append-add}
+use Rattle.std.specs.List.{copy_within}
 use Rattle.wire.specs.Room.{patch}
 
--- a byte further on is still what it was, so a turn's store takes the move of i bytes to the move of one more
-module _ (s : List ℕ) (to from n i : ℕ) (h : to ≤ from) (r : from + n ≤ length s) (l : i < n) where
-  abbrev q : List ℕ
-  q = take n (drop from s)
-
-  long : length q ≡ n
-  long = rw (length-take, length-drop) (omega arith)
-
-  byte : get_or (paste s to q i) (from + i) 0 ≡ get_or q i 0
-  byte =
-      let a : List ℕ = take to s ++ take i q in
-      let la : length a ≡ to + i = length_paste_head s to q i (omega arith) (omega (arith, long)) in
-      let e : from + i ≡ length a + (from - to) = omega (arith, la) in
-      let f : to + i + (from - to) ≡ from + i = omega arith in
-      rw (e, get_or-append-add a (drop (to + i) s) (from - to) 0, get_or-drop (to + i) s (from - to) 0, f, get_or-take n (drop from s) i 0 l, get_or-drop from s i 0)
-
-  pub moved_store : set (paste s to q i) (to + i) (get_or (paste s to q i) (from + i) 0) ≡ paste s to q (suc i)
-  moved_store = rw byte (paste-suc s to q i 0 (omega arith) (omega (arith, long)))
+-- bytes moved by the library
+pub moved : (d : List ℕ) (at from n : ℕ) → from + n ≤ length d → copy_within d from (from + n) at ≡ patch d at (take n (drop from d))
+moved d at from n h =
+    let z : from + n - from ≡ n = omega arith in
+    let l : length (take n (drop from d)) ≡ n = rw (length-take, length-drop) (omega arith) in
+    rw (z, l)
 
 -- what stays where it is
 pub patch_same : (s : List ℕ) (at n : ℕ) → at + n ≤ length s → s ≡ patch s at (take n (drop at s))

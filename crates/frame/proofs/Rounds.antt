@@ -1,5 +1,6 @@
 -- The reader's steps, over plain lists and numbers.
-use Rattle.std.proofs.Common.{◌≡◌, ℕ, ◌+◌, ◌-◌, ◌≤◌, Bool, true, false, List, [], ◌++◌, length, take, drop, sym, refl, ap, ◌∙◌, add_assoc}
+use Rattle.std.specs.Prelude.{Some}
+use Rattle.std.proofs.Common.{◌≡◌, ℕ, ◌+◌, ◌-◌, ◌≤◌, true, false, List, [], length, take, drop, sym, refl, ap, ◌∙◌, add_assoc}
 use Rattle.std.proofs.Common.{zero-add, arith, length-drop, length-take, length-take-le, take_all, drop-drop, take_at}
 use Rattle.wire.specs.Room.{patch}
 use Rattle.chunk.specs.Chunks.{largest}
@@ -7,44 +8,23 @@ use Rattle.chunk.specs.Read as P
 use Rattle.chunk.specs.ReadLaws.{read_uses}
 use Rattle.chunk.specs.declared.Decoded.{Decoded}
 use Rattle.chunk.specs.declared.PlainPacketCodec.{PlainPacketCodec}
-use Rattle.chunk.specs.declared.Tolerance.TheVariants.{Also}
-use Rattle.chunk.specs.declared.Answer.TheVariants as A
-use Rattle.frame.specs.Codec.{plain_of, with_plain, past_frame, unread_of, last_number}
-use Rattle.frame.specs.Read.{Done, Lap, done_of, took, frame_at, drained, asks, lap_at, later, running}
-use Rattle.frame.specs.ReadLaws.{Uses, lap_frame, lap_stop, lap_empty, lap_uses, uses_more, drained_less, running-stop, running_more}
+use Rattle.frame.specs.Codec.{plain_of, with_plain, unread_of, last_number}
+use Rattle.frame.specs.Read.{Done, Lap, done_of, frame_at, drained, lap_at, later, running}
+use Rattle.frame.specs.ReadLaws.{Uses, lap_empty, lap_uses, uses_more, running-stop, running_more}
 use Rattle.frame.specs.declared.PacketCodec.{PacketCodec}
-use Rattle.frame.specs.declared.FrameDecoded.{FrameDecoded}
-use Rattle.frame.proofs.Moves.{take-patch, drop-take}
-
-pub never : {A : Type 0} (k : Bool) → k ≡ false → k ≡ true → A
-never k f t = let e : true ≡ false = sym t ∙ f in absurd (let z : ◌≡◌ {A = ℕ} 0 1 = cc e in omega arith)
-
--- ---- a frame's bytes, copied behind the unread ones
-
-pub frame-taken : (c next : PacketCodec) (len : ℕ) (u s s' b : List ℕ) → len + 7 ≤ length u → c.unread + len ≤ length s
-    → next ≡ past_frame c len → s' ≡ patch s c.unread (take (len + 7 - 7) (drop 7 u))
-    → done_of (record { answer = A.NeedMore; used = len + 7; next = next }) s' b ≡ (took c len u (unread_of c s) b).done
-unfolding took unread_of
-frame-taken c next len u s s' b h r n e =
-    let z : len + 7 - 7 ≡ len = omega arith in
-    let q : List ℕ = take len (drop 7 u) in
-    let lq : length q ≡ len = rw (length-take, length-drop) (omega arith) in
-    let w : s' ≡ patch s c.unread q = e ∙ ap (λ (j : ℕ). patch s c.unread (take j (drop 7 u))) z in
-    let t : take (c.unread + len) s' ≡ take c.unread s ++ q =
-    ap (take (c.unread + len)) w ∙ ap (λ (j : ℕ). take (c.unread + j) (patch s c.unread q)) (sym lq) ∙ take-patch s c.unread q (omega arith) in
-    rw (n, t)
+use Rattle.frame.proofs.Moves.{drop-take}
 
 -- ---- the plain reader on the unread bytes
 
-module _ (c : PacketCodec) (s b b' : List ℕ) (last : ℕ) (st : PlainPacketCodec) (r : Decoded) (h : c.unread ≤ length s)
-    (p : st ≡ plain_of c) (o : P.done_of r b' ≡ P.read largest (Also last) st (take c.unread s) b) where
-  e : P.done_of r b' ≡ P.read largest (Also last) (plain_of c) (take c.unread s) b
+module _ (c : PacketCodec) (s b b' : List ℕ) (last : ℕ) (st : PlainPacketCodec) (r : Decoded ℕ PlainPacketCodec) (h : c.unread ≤ length s)
+    (p : st ≡ plain_of c) (o : P.done_of r b' ≡ P.read largest (Some last) st (take c.unread s) b) where
+  e : P.done_of r b' ≡ P.read largest (Some last) (plain_of c) (take c.unread s) b
   e = rw p at o
 
   pub drain_fits : r.used ≤ c.unread
   drain_fits =
-      let u : r.used ≡ (P.read largest (Also last) (plain_of c) (take c.unread s) b).used = ap (λ (d : P.Done). d.used) e in
-      omega (arith, u, read_uses largest (Also last) (plain_of c) (take c.unread s) b, length-take-le c.unread s h)
+      let u : r.used ≡ (P.read largest (Some last) (plain_of c) (take c.unread s) b).used = ap (λ (d : P.Done). d.used) e in
+      omega (arith, u, read_uses largest (Some last) (plain_of c) (take c.unread s) b, length-take-le c.unread s h)
 
   front : (s' : List ℕ) → s' ≡ patch s 0 (take (c.unread - r.used) (drop r.used s)) → take (c.unread - r.used) s' ≡ drop r.used (take c.unread s)
   front s' l =
@@ -76,31 +56,10 @@ module _ (c : PacketCodec) (s b b' : List ℕ) (last : ℕ) (st : PlainPacketCod
         unread = w;
         buf = b';
       }) (front s' l)
-      ∙ ap made (e ∙ ap (λ (j : ℕ). P.read largest (Also j) (plain_of c) (take c.unread s) b) k)
+      ∙ ap made (e ∙ ap (λ (j : ℕ). P.read largest (Some j) (plain_of c) (take c.unread s) b) k)
 
--- ---- a round, from what the plain reader gave
+-- ---- a round with nothing unread
 
-module _ (c : PacketCodec) (u s b s₁ b₁ : List ℕ) (d : FrameDecoded) (e : done_of d s₁ b₁ ≡ drained largest c (unread_of c s) b) where
-  pub less : d.next.unread ≤ c.unread
-  less = let n : d.next.unread ≡ (drained largest c (unread_of c s) b).next.unread = ap (λ (x : Done). x.next.unread) e in omega
-      (arith, n, drained_less largest c (unread_of c s) b)
-
-  says : (t : Bool) → asks (P.answer_said d.answer) ≡ t → asks (drained largest c (unread_of c s) b).answer ≡ t
-  says t a = sym (ap (λ (x : Done). asks x.answer) e) ∙ a
-
-  pub round_frame : (x : Done) → asks (P.answer_said d.answer) ≡ true → length s₁ ≡ length s
-      → x ≡ (frame_at d.next u (unread_of d.next s₁) (length s₁) b₁).done
-      → x ≡ (lap_at largest c u (unread_of c s) (length s) b).done
-  round_frame x a l f =
-      f
-      ∙ ap (λ (n : ℕ). (frame_at d.next u (unread_of d.next s₁) n b₁).done) l
-      ∙ ap (λ (y : Done). (frame_at y.next u y.unread (length s) y.buf).done) e
-      ∙ ap (λ (t : Lap). t.done) (sym (lap_frame largest c u (unread_of c s) (length s) b (says true a)))
-
-  pub round_stop : asks (P.answer_said d.answer) ≡ false → done_of d s₁ b₁ ≡ (lap_at largest c u (unread_of c s) (length s) b).done
-  round_stop a = e ∙ ap (λ (t : Lap). t.done) (sym (lap_stop largest c u (unread_of c s) (length s) b (says false a)))
-
--- a round with nothing unread
 pub round_empty : (c : PacketCodec) (u s b : List ℕ) (x : Done) → c.unread ≡ 0 → c.closed ≡ false
     → x ≡ (frame_at c u (unread_of c s) (length s) b).done → x ≡ (lap_at largest c u (unread_of c s) (length s) b).done
 unfolding unread_of
@@ -124,7 +83,7 @@ pub head_first : (s b : List ℕ) (c : PacketCodec) (src : List ℕ) → c.unrea
 head_first s b c src h = record { within = omega arith; long = refl; same = refl; fits = h; rest = simp zero-add }
 
 module _ (s₀ b₀ : List ℕ) (c₀ : PacketCodec) (src s b : List ℕ) (at : ℕ) (c : PacketCodec) (h : Head s₀ b₀ c₀ src s b at c)
-    (r : FrameDecoded) (s' b' : List ℕ)
+    (r : Decoded ℕ PacketCodec) (s' b' : List ℕ)
     (e : done_of r s' b' ≡ (lap_at largest c (take (length src - at) (drop at src)) (unread_of c s) (length s) b).done) where
   abbrev t : Lap
   t = lap_at largest c (drop at src) (unread_of c s) (length s₀) b

@@ -1,25 +1,19 @@
 -- Any two results that a contract allows are equal, and so are the buffers at exit: no two answers say the same. Of staging the unread
 -- bytes are meant; what stands behind them is the listed exception.
+use Rattle.chunk.specs.declared.Encoded.{Encoded}
+use Rattle.chunk.specs.declared.Decoded.{Decoded}
+use Rattle.refusal.specs.Said.{said_same}
 use Rattle.std.proofs.Common.{◌≡◌, ℕ, List, sym, ap, ◌∙◌}
-use Rattle.wire.specs.RoomLaws.{put_same}
-use Rattle.wire.specs.declared.Put.{Put}
 use Rattle.chunk.specs.Chunks.{largest}
-use Rattle.chunk.specs.ReadLaws.{answer_same}
-use Rattle.chunk.specs.declared.Answer.{Answer}
+use Rattle.chunk.specs.ReadLaws.{decoded_same, encoded_same, answer_same}
 use Rattle.frame.specs.Codec.{unread_of}
 use Rattle.frame.specs.Read.{Done, done_of, read_framed}
 use Rattle.frame.specs.Write.{Sent, sent_of, write_framed}
 use Rattle.frame.specs.declared.PacketCodec.{PacketCodec}
-use Rattle.frame.specs.declared.FrameDecoded.{FrameDecoded}
-use Rattle.frame.specs.declared.FrameEncoded.{FrameEncoded}
 
 -- ---- decode_framed
 
-decoded_same : {a a' : Answer} {n n' : ℕ} {c c' : PacketCodec} → a ≡ a' → n ≡ n' → c ≡ c'
-    → ◌≡◌ {A = FrameDecoded} (record { answer = a; used = n; next = c }) (record { answer = a'; used = n'; next = c' })
-decoded_same e f g = rw (e, f, g)
-
-pub decode_framed_unique : (c : PacketCodec) (u s b : List ℕ) (r r' : FrameDecoded) (s₁ s₂ b₁ b₂ : List ℕ)
+pub decode_framed_unique : (c : PacketCodec) (u s b : List ℕ) (r r' : Decoded ℕ PacketCodec) (s₁ s₂ b₁ b₂ : List ℕ)
     → done_of r s₁ b₁ ≡ read_framed largest c u s b → done_of r' s₂ b₂ ≡ read_framed largest c u s b
     → (r ≡ r') × (unread_of r.next s₁ ≡ unread_of r'.next s₂) × (b₁ ≡ b₂)
 decode_framed_unique c u s b r r' s₁ s₂ b₁ b₂ h h' =
@@ -31,14 +25,10 @@ decode_framed_unique c u s b r r' s₁ s₂ b₁ b₂ h h' =
 
 -- ---- encode_framed
 
-encoded_same : {p p' : Put} {c c' : PacketCodec} → p ≡ p' → c ≡ c'
-    → ◌≡◌ {A = FrameEncoded} (record { put = p; next = c }) (record { put = p'; next = c' })
-encoded_same e f = rw (e, f)
-
-pub encode_framed_unique : (c : PacketCodec) (p d : List ℕ) (r r' : FrameEncoded) (d₁ d₂ : List ℕ)
+pub encode_framed_unique : (c : PacketCodec) (p d : List ℕ) (r r' : Encoded PacketCodec) (d₁ d₂ : List ℕ)
     → sent_of r d₁ ≡ write_framed largest c p d → sent_of r' d₂ ≡ write_framed largest c p d → (r ≡ r') × (d₁ ≡ d₂)
 encode_framed_unique c p d r r' d₁ d₂ h h' =
     let e : sent_of r d₁ ≡ sent_of r' d₂ = h ∙ sym h' in (
-      encoded_same (put_same r.put r'.put (ap (λ (s : Sent). s.said) e)) (ap (λ (s : Sent). s.next) e),
+      encoded_same (said_same r.put r'.put (ap (λ (s : Sent). s.said) e)) (ap (λ (s : Sent). s.next) e),
       ap (λ (s : Sent). s.buf) e,
     )

@@ -1,6 +1,10 @@
 -- The writer's steps, over plain lists and numbers.
 use Rattle.std.proofs.Common.{◌≡◌, ℕ, ◌+◌, ◌-◌, ◌*◌, ◌<◌, ◌≤◌, List, [], ◌∷◌, ◌++◌, length, take, drop, set, sym, refl, ap, ◌∙◌, append_assoc}
-use Rattle.std.proofs.Common.{zero-add, arith, length-drop, length-take, take-take, take_at}
+use Rattle.std.proofs.Math.Decide.{dec_le}
+use Rattle.std.proofs.Math.Nat.{mul-add-div, div-eq-sub-div, div-eq_of_lt}
+use Rattle.std.proofs.Common.{nat_lt, ◌/◌, ◌%◌, min, zero-add, arith, length-drop, length-take, take-take, take_at}
+use borrow.Author.Tests.{ltb-true, ltb-false}
+use Rattle.chunk.specs.ReadLaws.{by_test}
 use Rattle.wire.specs.Le.{le_bytes}
 use Rattle.wire.specs.LeLaws.{le_length}
 use Rattle.wire.specs.Room.{patch}
@@ -181,9 +185,28 @@ pub total_is : (limit len n piece count : ℕ) → n ≡ needed largest len → 
 unfolding frames_need
 total_is limit len n piece count e g h = rw (h, g, e)
 
-pub piece_fits : (limit piece : ℕ) → (limit ≡ 0 → ⊥) → piece ≡ piece_of largest limit → (0 < piece) × (piece ≤ largest)
-piece_fits limit piece z e = rw e (piece_some largest limit (omega arith) z)
+pub piece_is : (m limit : ℕ) → min limit m ≡ piece_of m limit
+unfolding piece_of
+piece_is m limit = by_test (λ (n : ℕ). min limit m ≡ n) (nat_lt m limit) m limit (λ h. let l = ltb-true _ _ h in omega (arith, l)) (λ h. let l = ltb-false _ _ h in omega (arith, l))
 
-pub needed-fits : (n len : ℕ) → len < 0x8000000000000000 → n ≡ needed largest len → (0 < n) × (n < 0xFFFFFFFF00000000)
-unfolding needed
-needed-fits n len h e = (omega arith, omega arith)
+pub piece_fits : (limit piece : ℕ) → (limit ≡ 0 → ⊥) → piece ≡ piece_of largest limit → 0 < piece
+piece_fits limit piece z e = rw e (piece_some largest limit (omega arith) z).0
+
+-- the library rounds up in its own way
+pub ceil_is : (n c : ℕ) → 0 < c → n / c + min 1 (n % c) ≡ ceil n c
+unfolding ceil
+ceil_is n c h =
+    let r : n % c < c = omega arith in
+    elim (dec_le (n % c) 0) [
+      | yes z ↦
+          let g : n + (c - 1) ≡ c * (n / c) + (c - 1) = omega arith in
+          let m : (c - 1) / c ≡ 0 = div-eq_of_lt (omega arith) in
+          let k : min 1 (n % c) ≡ 0 = omega arith in
+          rw (g, mul-add-div h (n / c) (c - 1), m, k)
+      | no z ↦
+          let g : n + (c - 1) ≡ c * (n / c) + (n % c + (c - 1)) = omega arith in
+          let l : c ≤ n % c + (c - 1) = omega arith in
+          let m : (n % c + (c - 1) - c) / c ≡ 0 = div-eq_of_lt (omega arith) in
+          let k : min 1 (n % c) ≡ 1 = omega arith in
+          rw (g, mul-add-div h (n / c) (n % c + (c - 1)), div-eq-sub-div h l, m, k)
+    ]

@@ -1,6 +1,6 @@
 -- "Staging of 2·limit + 4 bytes never gives 6": nor does one byte less, where the packet buffer is as long as the limit. Where the plain
 -- reader asks for more, fewer than limit + 4 bytes are unread, and a frame adds no more than limit.
-use Rattle.std.specs.Prelude.{◌≡◌, ℕ, zero, suc, ◌+◌, ◌<◌, ◌≤◌, Bool, true, false, List, length, take, drop, ◌==◌, ◌≢◌, nat_lt, slice_index_or}
+use Rattle.std.specs.Prelude.{◌≡◌, ℕ, zero, suc, ◌+◌, ◌<◌, ◌≤◌, Bool, true, false, List, length, take, drop, ◌==◌, ◌≢◌, nat_lt, slice_index_or, Option, Some}
 use Rattle.std.proofs.Math.Path.{refl}
 use Rattle.std.proofs.Common.{◌∙◌, length-append, length-take-le}
 use Rattle.std.proofs.Math.Nat.{not-suc-le-zero}
@@ -14,8 +14,6 @@ use Rattle.chunk.specs.Read as P
 use Rattle.chunk.specs.Read.{Answered, need_more, packet, refused, Held, held_of, holding, accepted, turn_of, turn_from, turns, opened, read}
 use Rattle.chunk.specs.ReadLaws.{by_test, took_more, took_last, turn_uses}
 use Rattle.chunk.specs.declared.PlainPacketCodec.{PlainPacketCodec}
-use Rattle.chunk.specs.declared.Tolerance.{Tolerance}
-use Rattle.chunk.specs.declared.Tolerance.TheVariants.{Also}
 use Rattle.frame.specs.Codec as C
 use Rattle.frame.specs.Codec.{plain_of, closed, holding_frame, renumbered, FrameHeld, frame_held_of, unread_of, last_number}
 use Rattle.frame.specs.Read as F
@@ -82,7 +80,7 @@ took_calm m st len num u b f h r l =
     })
     (λ _. record { limit = refl; fits = past_fits st num 0 (omega arith); buffer = lb; never = λ e. zero_one (cc e); few = λ _ e. absurd (zero_one (cc e)) })
 
-chunk_calm : (m : ℕ) (x : Tolerance) (st : PlainPacketCodec) (len num : ℕ) (u b : List ℕ) → Fits st → st.taken + len ≤ st.limit → st.limit ≤ length b
+chunk_calm : (m : ℕ) (x : Option ℕ) (st : PlainPacketCodec) (len num : ℕ) (u b : List ℕ) → Fits st → st.taken + len ≤ st.limit → st.limit ≤ length b
     → CalmTurn st.limit (length b) u (P.chunk_at m x st len num u b)
 unfolding P.chunk_at
 chunk_calm m x st len num u b f h r =
@@ -94,7 +92,7 @@ chunk_calm m x st len num u b f h r =
     (λ t. took_calm m st len num u b f h (ltb-false (length b) (st.taken + len) t) (ltb-false (length u) (len + 4) s)))
     (λ _. refused_calm u b 3 (P.closed st) (closed-fits st f) (λ e. omega arith)))
 
-from_calm : (m : ℕ) (x : Tolerance) (st : PlainPacketCodec) (h : Held) (u b : List ℕ) → held_of st ≡ h → Fits st → st.limit ≤ length b
+from_calm : (m : ℕ) (x : Option ℕ) (st : PlainPacketCodec) (h : Held) (u b : List ℕ) → held_of st ≡ h → Fits st → st.limit ≤ length b
     → CalmTurn st.limit (length b) u (turn_from m x st h u b)
 unfolding turn_from P.headed
 from_calm m x st P.none u b e f r =
@@ -108,12 +106,12 @@ from_calm m x st P.none u b e f r =
     (λ t. let t' = ltb-false st.limit (st.taken + len) t in chunk_calm m x (holding st len num) len num u b (hold_fits st len num f t') t' r)))
 from_calm m x st (P.held len num) u b e f r = chunk_calm m x st len num u b f (f.held len num e) r
 
-turn_calm : (m : ℕ) (x : Tolerance) (st : PlainPacketCodec) (u b : List ℕ) → Fits st → st.limit ≤ length b → CalmTurn st.limit (length b) u
+turn_calm : (m : ℕ) (x : Option ℕ) (st : PlainPacketCodec) (u b : List ℕ) → Fits st → st.limit ≤ length b → CalmTurn st.limit (length b) u
     (turn_of m x st u b)
 unfolding turn_of
 turn_calm m x st u b f r = from_calm m x st (held_of st) u b refl f r
 
-turns_calm : (f m : ℕ) (x : Tolerance) (st : PlainPacketCodec) (u b : List ℕ) → length u < f → Fits st → st.limit ≤ length b
+turns_calm : (f m : ℕ) (x : Option ℕ) (st : PlainPacketCodec) (u b : List ℕ) → length u < f → Fits st → st.limit ≤ length b
     → Calm st.limit (length b) u (turns f m x st u b)
 unfolding turns
 turns_calm zero m x st u b h g r = absurd (not-suc-le-zero h)
@@ -134,7 +132,7 @@ turns_calm (suc f) m x st u b h g r =
     })
     (λ k. record { limit = c.limit; fits = c.fits; buffer = c.buffer; never = c.never; few = c.few k })
 
-pub read_calm : (m : ℕ) (x : Tolerance) (st : PlainPacketCodec) (u b : List ℕ) → Fits st → st.limit ≤ length b → Calm st.limit (length b) u
+pub read_calm : (m : ℕ) (x : Option ℕ) (st : PlainPacketCodec) (u b : List ℕ) → Fits st → st.limit ≤ length b → Calm st.limit (length b) u
     (read m x st u b)
 unfolding read opened
 read_calm m x st u b f r =
@@ -223,7 +221,7 @@ drained-still : (m : ℕ) (c : PacketCodec) (w b : List ℕ) → Good c → leng
     → Still c.limit (length b) (drained m c w b) × ((drained m c w b).answer ≡ need_more → (drained m c w b).next.unread < c.limit + 4)
 unfolding drained
 drained-still m c w b g e r =
-    let k = read_calm m (Also (last_number c.frame)) (plain_of c) w b g.plain r in (
+    let k = read_calm m (Some (last_number c.frame)) (plain_of c) w b g.plain r in (
       record {
         limit = k.limit;
         good = record { plain = k.fits; frame = λ len num z. rw k.limit (g.frame len num z); few = rw k.limit (omega (arith, g.few)) };

@@ -1,12 +1,11 @@
 -- Reading stored frames, by 01's "Stored frames". u is the unread source, w the unread chunk bytes in staging, room staging's length,
 -- b the packet buffer.
-use Rattle.std.specs.Prelude.{◌≡◌, ℕ, zero, suc, ◌+◌, ◌-◌, Bool, true, false, cond, List, ◌++◌, length, take, drop, ◌==◌, nat_lt, slice_index}
+use Rattle.chunk.specs.declared.Decoded.{Decoded}
+use Rattle.std.specs.Prelude.{◌≡◌, ℕ, zero, suc, ◌+◌, ◌-◌, Bool, true, false, cond, List, ◌++◌, length, take, drop, ◌==◌, nat_lt, slice_index, Some}
 use Rattle.wire.specs.Le.{le_at}
 use Rattle.chunk.specs.Read.{Answered, need_more, packet, refused, answer_said, read}
-use Rattle.chunk.specs.declared.Tolerance.TheVariants.{Also}
 use Rattle.frame.specs.Codec.{plain_of, with_plain, closed, holding_frame, past_frame, FrameHeld, none, held, frame_held_of, unread_of, last_number}
 use Rattle.frame.specs.declared.PacketCodec.{PacketCodec}
-use Rattle.frame.specs.declared.FrameDecoded.{FrameDecoded}
 
 -- a call: its answer, the bytes used, and what the codec, the unread bytes and the packet buffer are then
 pub record Done : Type 0 where
@@ -22,11 +21,11 @@ pub record Lap : Type 0 where
   pub done : Done
 
 -- what the code's answer says, with both buffers at its exit. Of staging only the unread part is fixed
-abbrev pub done_of : FrameDecoded → (s b : List ℕ) → Done
+abbrev pub done_of : Decoded ℕ PacketCodec → (s b : List ℕ) → Done
 done_of r s b = record { answer = answer_said r.answer; used = r.used; next = r.next; unread = unread_of r.next s; buf = b }
 
 -- the same of a step that is not lent the packet buffer: whatever that is, it stays
-abbrev pub Steps : FrameDecoded → List ℕ → (List ℕ → Lap) → Type 0
+abbrev pub Steps : Decoded ℕ PacketCodec → List ℕ → (List ℕ → Lap) → Type 0
 Steps r s f = (b : List ℕ) → done_of r s b ≡ (f b).done
 
 -- ---- one frame
@@ -80,7 +79,7 @@ frame_at c u w room b = frame_from c (frame_held_of c) u w room b
 
 unfoldable pub drained : ℕ → PacketCodec → (w b : List ℕ) → Done
 drained m c w b =
-    let d = read m (Also (last_number c.frame)) (plain_of c) w b in
+    let d = read m (Some (last_number c.frame)) (plain_of c) w b in
     record { answer = d.answer; used = 0; next = with_plain c d.next (c.unread - d.used); unread = drop d.used w; buf = d.buf }
 
 abbrev pub asks : Answered → Bool

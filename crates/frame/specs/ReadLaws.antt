@@ -1,13 +1,12 @@
 -- Laws of reading frames: each case of a frame, of a round and of a call by itself, and how many bytes are used. No proof past these
 -- looks at the number of rounds.
-use Rattle.std.specs.Prelude.{◌≡◌, ℕ, zero, suc, ◌+◌, ◌<◌, ◌≤◌, Bool, true, false, cond, List, [], length, drop, ◌==◌, ◌≢◌, nat_lt, slice_index, slice_index_or, refl}
+use Rattle.std.specs.Prelude.{◌≡◌, ℕ, zero, suc, ◌+◌, ◌<◌, ◌≤◌, Bool, true, false, cond, List, [], length, drop, ◌==◌, ◌≢◌, nat_lt, slice_index, slice_index_or, refl, Some}
 use Rattle.std.proofs.Common.{ap, not-suc-le-zero, arith, length-drop}
 use Rattle.std.proofs.Math.Nat.{sub-zero}
 use borrow.Author.Tests.{ltb-false, lt-ltb, le-ltb, eq-eqb, ne_eqb}
 use Rattle.wire.specs.Le.{le_at}
 use Rattle.chunk.specs.Read.{Answered, need_more, refused}
 use Rattle.chunk.specs.ReadLaws.{by_test, read_open, opened_none}
-use Rattle.chunk.specs.declared.Tolerance.TheVariants.{Also}
 use Rattle.frame.specs.Codec.{plain_of, closed, holding_frame, FrameHeld, none, held, frame_held_of, unread_of, last_number}
 use Rattle.frame.specs.Read.{Done, Lap, stop, took, body_at, headed, frame_from, frame_at, drained, asks, lap_at, later, laps, running, untouched, read_framed}
 use Rattle.frame.specs.declared.PacketCodec.{PacketCodec}
@@ -91,7 +90,7 @@ pub drained_none : (m : ℕ) (c : PacketCodec) (b : List ℕ) → c.closed ≡ f
     → drained m c [] b ≡ record { answer = need_more; used = 0; next = c; unread = []; buf = b }
 unfolding drained
 drained_none m c b k =
-    let x = Also (last_number c.frame) in
+    let x = Some (last_number c.frame) in
     rw (read_open m x (plain_of c) [] b k, opened_none m x (plain_of c) b, sub-zero c.unread)
 
 pub lap_empty : (m : ℕ) (c : PacketCodec) (u : List ℕ) (room : ℕ) (b : List ℕ) → c.closed ≡ false

@@ -1,7 +1,7 @@
 -- Reading in parts: a call that asks for more, and then a call on what it left and what came after, answers what one call on all the
 -- bytes would have. Between them the host lends any staging that has the unread bytes at its front. A call that does not ask for more
 -- answers the same with more behind.
-use Rattle.std.specs.Prelude.{◌≡◌, ℕ, zero, suc, ◌+◌, ◌<◌, ◌≤◌, Bool, true, false, List, [], ◌++◌, length, take, drop, ◌==◌, ◌≢◌, nat_lt, slice_index, refl}
+use Rattle.std.specs.Prelude.{◌≡◌, ℕ, zero, suc, ◌+◌, ◌<◌, ◌≤◌, Bool, true, false, List, [], ◌++◌, length, take, drop, ◌==◌, ◌≢◌, nat_lt, slice_index, refl, Option, Some}
 use Rattle.std.proofs.Common.{sym, ◌∙◌, append-nil, add_assoc, zero-add, not-suc-le-zero, arith, drop-drop}
 use Rattle.std.proofs.Math.Path.{ap}
 use Rattle.std.proofs.Math.Nat.{sub-zero}
@@ -15,8 +15,6 @@ use Rattle.chunk.specs.Read.{Answered, need_more, packet, refused, read}
 use Rattle.chunk.specs.ReadLaws.{by_test, read-closed}
 use Rattle.chunk.specs.ResumeLaws.{resume}
 use Rattle.chunk.specs.declared.PlainPacketCodec.{PlainPacketCodec}
-use Rattle.chunk.specs.declared.Tolerance.{Tolerance}
-use Rattle.chunk.specs.declared.Tolerance.TheVariants.{Also}
 use Rattle.frame.specs.Codec.{plain_of, closed, holding_frame, FrameHeld, none, held, frame_held_of, unread_of, last_number}
 use Rattle.frame.specs.Read.{Done, Lap, stop, took, body_at, headed, frame_at, drained, asks, lap_at, later, laps, running, untouched, read_framed}
 use Rattle.frame.specs.ReadLaws.{body-short, headed_large, headed_full, headed_empty, headed_bad, headed_held, headed_packed, frame-short}
@@ -151,7 +149,7 @@ done_same : {a a' : Answered} {n n' : ℕ} {st st' : PlainPacketCodec} {b b' : L
     → ◌≡◌ {A = P.Done} (record { answer = a; used = n; next = st; buf = b }) (record { answer = a'; used = n'; next = st'; buf = b' })
 done_same e f g h = rw (e, f, g, h)
 
-again : (m : ℕ) (x : Tolerance) (st : PlainPacketCodec) (w b : List ℕ) → (read m x st w b).answer ≡ need_more
+again : (m : ℕ) (x : Option ℕ) (st : PlainPacketCodec) (w b : List ℕ) → (read m x st w b).answer ≡ need_more
     → read m x (read m x st w b).next (drop (read m x st w b).used w) (read m x st w b).buf
     ≡ record { answer = need_more; used = 0; next = (read m x st w b).next; buf = (read m x st w b).buf }
 again m x st w b a =
@@ -167,11 +165,11 @@ module _ (m : ℕ) (c : PacketCodec) (w b : List ℕ) (a : (drained m c w b).ans
       ≡ record { answer = need_more; used = 0; next = c'; unread = (drained m c w b).unread; buf = (drained m c w b).buf }
   unfolding drained
   drained_again c' p f =
-      let x = Also (last_number c.frame) in
+      let x = Some (last_number c.frame) in
       let R = read m x (plain_of c) w b in
-      let e : read m (Also (last_number c'.frame)) (plain_of c') (drop R.used w) R.buf
+      let e : read m (Some (last_number c'.frame)) (plain_of c') (drop R.used w) R.buf
       ≡ record { answer = need_more; used = 0; next = plain_of c'; buf = R.buf } =
-      ap (λ (k : ℕ). read m (Also (last_number k)) (plain_of c') (drop R.used w) R.buf) f
+      ap (λ (k : ℕ). read m (Some (last_number k)) (plain_of c') (drop R.used w) R.buf) f
       ∙ ap (λ (s : PlainPacketCodec). read m x s (drop R.used w) R.buf) p
       ∙ again m x (plain_of c) w b a
       ∙ ap (λ (s : PlainPacketCodec). record { answer = need_more; used = 0; next = s; buf = R.buf }) (sym p) in
@@ -179,7 +177,7 @@ module _ (m : ℕ) (c : PacketCodec) (w b : List ℕ) (a : (drained m c w b).ans
 
 live_by : (m : ℕ) (c : PacketCodec) (w b : List ℕ) (k : Bool) → c.closed ≡ k → (drained m c w b).answer ≡ need_more → c.closed ≡ false
 unfolding drained
-live_by m c w b true e a = let y : refused 7 ≡ need_more = rw (read-closed m (Also (last_number c.frame)) (plain_of c) w b e) at a in absurd (zero_one (cc y))
+live_by m c w b true e a = let y : refused 7 ≡ need_more = rw (read-closed m (Some (last_number c.frame)) (plain_of c) w b e) at a in absurd (zero_one (cc y))
 live_by m c w b false e a = e
 
 -- ---- the rounds

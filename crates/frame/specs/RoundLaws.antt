@@ -1,6 +1,6 @@
 -- What was written with frames on is read with frames on: the packet comes back. Over any piece sizes, and whatever stands behind the
 -- frames. Before the last frame the plain reader asks for more: else it would have answered so on all the bytes, with fewer used.
-use Rattle.std.specs.Prelude.{◌≡◌, ℕ, zero, suc, ◌+◌, ◌-◌, ◌<◌, ◌≤◌, min, Bool, true, false, List, [], ◌∷◌, ◌++◌, length, take, drop, ◌≢◌, slice_index, refl}
+use Rattle.std.specs.Prelude.{◌≡◌, ℕ, zero, suc, ◌+◌, ◌-◌, ◌<◌, ◌≤◌, min, Bool, true, false, List, [], ◌∷◌, ◌++◌, length, take, drop, ◌≢◌, slice_index, refl, Some, None}
 use Rattle.std.proofs.Common.{sym, ap, ◌∙◌, not-suc-le-zero, arith, length-append, length-drop, length-take, take-append-drop, drop_of_length-le, take_all, drop_at}
 use mathlib.Core.List.{flatten, append_assoc, append-nil}
 use Rattle.std.proofs.Math.Decide.{dec_le}
@@ -16,7 +16,6 @@ use Rattle.chunk.specs.ReadLaws.{read_open, read_uses}
 use Rattle.chunk.specs.RoundLaws.{whole, opened-chunks}
 use Rattle.chunk.specs.ResumeLaws.{opened_resume, opened_stays, opened_ready}
 use Rattle.chunk.specs.declared.PlainPacketCodec.{PlainPacketCodec}
-use Rattle.chunk.specs.declared.Tolerance.TheVariants.{Strict, Also}
 use Rattle.frame.specs.Codec.{plain_of, with_plain, holding_frame, past_frame, unread_of, last_number}
 use Rattle.frame.specs.Frames.{frame, split, numbered_frames, frames_of, frames, frames_need, frames_after}
 use Rattle.frame.specs.FramesLaws.{ceil_none, frames_last, frames_more, length-frame, need_last, need_more_lem, frames-after_last, frames-after_more}
@@ -145,19 +144,19 @@ outcome on c k s d = record {
   buf = d.buf;
 }
 
-drained_strict : (m : ℕ) (st : PacketCodec) (w b : List ℕ) → st.closed ≡ false → ((opened m Strict (plain_of st) w b).answer ≢ refused 3)
+drained_strict : (m : ℕ) (st : PacketCodec) (w b : List ℕ) → st.closed ≡ false → ((opened m None (plain_of st) w b).answer ≢ refused 3)
     → drained m st w b ≡ record {
-      answer = (opened m Strict (plain_of st) w b).answer;
+      answer = (opened m None (plain_of st) w b).answer;
       used = 0;
-      next = with_plain st (opened m Strict (plain_of st) w b).next (st.unread - (opened m Strict (plain_of st) w b).used);
-      unread = drop (opened m Strict (plain_of st) w b).used w;
-      buf = (opened m Strict (plain_of st) w b).buf;
+      next = with_plain st (opened m None (plain_of st) w b).next (st.unread - (opened m None (plain_of st) w b).used);
+      unread = drop (opened m None (plain_of st) w b).used w;
+      buf = (opened m None (plain_of st) w b).buf;
     }
 unfolding drained
-drained_strict m st w b c h = rw (read_open m (Also (last_number st.frame)) (plain_of st) w b c, tolerant m (Also (last_number st.frame)) (plain_of st) w b h)
+drained_strict m st w b c h = rw (read_open m (Some (last_number st.frame)) (plain_of st) w b c, tolerant m (Some (last_number st.frame)) (plain_of st) w b h)
 
-opened_uses : (m : ℕ) (st : PlainPacketCodec) (u b : List ℕ) → st.closed ≡ false → (opened m Strict st u b).used ≤ length u
-opened_uses m st u b c = rw (read_open m Strict st u b c) at (read_uses m Strict st u b)
+opened_uses : (m : ℕ) (st : PlainPacketCodec) (u b : List ℕ) → st.closed ≡ false → (opened m None st u b).used ≤ length u
+opened_uses m st u b c = rw (read_open m None st u b c) at (read_uses m None st u b)
 
 left_over : (x used lw ls c : ℕ) → used + x ≡ lw + ls → used ≤ lw → x ≡ lw - used + min c ls + (ls - c)
 left_over x used lw ls c e h = omega arith
@@ -165,8 +164,8 @@ left_over x used lw ls c e h = omega arith
 module _ (m c : ℕ) (pos : 0 < c) (most : c ≤ largest) (r : List ℕ) (room n : ℕ) where
   -- nothing more comes: the packet is there
   at_end : (st : PacketCodec) (w b : List ℕ) → Idle st → st.unread ≡ length w → st.frame < 256 → st.closed ≡ false
-      → (opened m Strict (plain_of st) w b).answer ≡ packet n → (opened m Strict (plain_of st) w b).used ≡ length w
-      → running m st r w room b ≡ outcome st.framed c st.frame [] (opened m Strict (plain_of st) w b)
+      → (opened m None (plain_of st) w b).answer ≡ packet n → (opened m None (plain_of st) w b).used ≡ length w
+      → running m st r w room b ≡ outcome st.framed c st.frame [] (opened m None (plain_of st) w b)
   at_end st w b hc hu hk ho a us =
       let z = drained_strict m st w b ho (λ e. zero_one (let y : packet n ≡ refused 3 = sym a ∙ e in cc y)) in
       let s : asks (drained m st w b).answer ≡ false = rw (z, a) in
@@ -188,9 +187,9 @@ module _ (m c : ℕ) (pos : 0 < c) (most : c ≤ largest) (r : List ℕ) (room n
 
   -- one round of a stream s that is not empty: the plain reader wants more, and a frame is taken
   module _ (st : PacketCodec) (w s b : List ℕ) (hc : Idle st) (hu : st.unread ≡ length w) (ho : st.closed ≡ false) (lim : c ≤ st.limit)
-      (fits : length w + length s ≤ room) (some : 0 < length s) (a : (opened m Strict (plain_of st) w b).answer ≡ need_more) where
+      (fits : length w + length s ≤ room) (some : 0 < length s) (a : (opened m None (plain_of st) w b).answer ≡ need_more) where
     abbrev d : P.Done
-    d = opened m Strict (plain_of st) w b
+    d = opened m None (plain_of st) w b
 
     abbrev st' : PacketCodec
     st' = with_plain st d.next (st.unread - d.used)
@@ -223,7 +222,7 @@ module _ (m c : ℕ) (pos : 0 < c) (most : c ≤ largest) (r : List ℕ) (room n
     used = opened_uses m (plain_of st) w b ho
 
     lim' : c ≤ d.next.limit
-    lim' = rw (opened_limit m Strict (plain_of st) w b) lim
+    lim' = rw (opened_limit m None (plain_of st) w b) lim
 
     lap_is : lap_at m st u w room b ≡ took_it st' q w' d.buf
     lap_is =
@@ -239,35 +238,35 @@ module _ (m c : ℕ) (pos : 0 < c) (most : c ≤ largest) (r : List ℕ) (room n
     joined : (w' ++ q) ++ drop c s ≡ w' ++ s
     joined = rw (append_assoc w' q (drop c s), take-append-drop c s)
 
-    whole_is : opened m Strict (plain_of st) (w ++ s) b ≡ P.later d.used (opened m Strict d.next ((w' ++ q) ++ drop c s) d.buf)
-    whole_is = rw joined (opened_resume m Strict s (plain_of st) w b a)
+    whole_is : opened m None (plain_of st) (w ++ s) b ≡ P.later d.used (opened m None d.next ((w' ++ q) ++ drop c s) d.buf)
+    whole_is = rw joined (opened_resume m None s (plain_of st) w b a)
 
     step : running m (past_frame st' (length q)) rest (w' ++ q) room d.buf ≡ outcome st.framed c (next st.frame) (drop c s)
-        (opened m Strict d.next ((w' ++ q) ++ drop c s) d.buf)
-        → running m st u w room b ≡ outcome st.framed c st.frame s (opened m Strict (plain_of st) (w ++ s) b)
+        (opened m None d.next ((w' ++ q) ++ drop c s) d.buf)
+        → running m st u w room b ≡ outcome st.framed c st.frame s (opened m None (plain_of st) (w ++ s) b)
     step ih = rw (goes, ih, whole_is, need_step c st.frame s pos some, after-step c st.frame s pos some)
 
   -- it cannot be there before the last frame
-  early : (st : PlainPacketCodec) (w s b : List ℕ) → st.closed ≡ false → 0 < length s → (opened m Strict st (w ++ s) b).used ≡ length (w ++ s)
-      → ((opened m Strict st w b).answer ≢ need_more) → ⊥
+  early : (st : PlainPacketCodec) (w s b : List ℕ) → st.closed ≡ false → 0 < length s → (opened m None st (w ++ s) b).used ≡ length (w ++ s)
+      → ((opened m None st w b).answer ≢ need_more) → ⊥
   early st w s b ho some us h =
-      let e = opened_stays m Strict s st w b h in
-      let l : (opened m Strict st w b).used ≤ length w = opened_uses m st w b ho in
-      let y : (opened m Strict st w b).used ≡ length w + length s = sym (ap (λ (d : P.Done). d.used) e) ∙ us ∙ length-append w s in
+      let e = opened_stays m None s st w b h in
+      let l : (opened m None st w b).used ≤ length w = opened_uses m st w b ho in
+      let y : (opened m None st w b).used ≡ length w + length s = sym (ap (λ (d : P.Done). d.used) e) ∙ us ∙ length-append w s in
       not-suc-le-zero (let z : 1 ≤ 0 = omega arith in z)
 
-  wants : (st : PlainPacketCodec) (w s b : List ℕ) → st.closed ≡ false → 0 < length s → (opened m Strict st (w ++ s) b).used ≡ length (w ++ s)
-      → (opened m Strict st w b).answer ≡ need_more
+  wants : (st : PlainPacketCodec) (w s b : List ℕ) → st.closed ≡ false → 0 < length s → (opened m None st (w ++ s) b).used ≡ length (w ++ s)
+      → (opened m None st w b).answer ≡ need_more
   wants st w s b ho some us =
-      elim (opened m Strict st w b).answer as (λ k. (opened m Strict st w b).answer ≡ k → (opened m Strict st w b).answer ≡ need_more) [
+      elim (opened m None st w b).answer as (λ k. (opened m None st w b).answer ≡ k → (opened m None st w b).answer ≡ need_more) [
         | need_more ↦ λ e. e
         | packet j ↦ λ e. absurd (early st w s b ho some us (λ g. zero_one (let y : packet j ≡ need_more = sym e ∙ g in cc y)))
         | refused j ↦ λ e. absurd (early st w s b ho some us (λ g. zero_one (let y : refused j ≡ need_more = sym e ∙ g in cc y)))
       ] refl
 
   none : (st : PacketCodec) (w s b : List ℕ) → length s ≤ 0 → Idle st → st.unread ≡ length w → st.frame < 256 → st.closed ≡ false
-      → (opened m Strict (plain_of st) (w ++ s) b).answer ≡ packet n → (opened m Strict (plain_of st) (w ++ s) b).used ≡ length (w ++ s)
-      → running m st (frames c st.frame s ++ r) w room b ≡ outcome st.framed c st.frame s (opened m Strict (plain_of st) (w ++ s) b)
+      → (opened m None (plain_of st) (w ++ s) b).answer ≡ packet n → (opened m None (plain_of st) (w ++ s) b).used ≡ length (w ++ s)
+      → running m st (frames c st.frame s ++ r) w room b ≡ outcome st.framed c st.frame s (opened m None (plain_of st) (w ++ s) b)
   none st w [] b h hc hu hk ho a us =
       rw (no_frames c st.frame, append-nil w)
       (at_end st w b hc hu hk ho (rw (append-nil w) at a) (rw (append-nil w) at us))
@@ -277,8 +276,8 @@ module _ (m c : ℕ) (pos : 0 < c) (most : c ≤ largest) (r : List ℕ) (room n
   frames-read : (f : ℕ) (st : PacketCodec) (w s b : List ℕ) → length s ≤ f → Idle st → st.unread ≡ length w → st.frame < 256 → st.closed ≡ false
       → c ≤ st.limit
       → length w + length s ≤ room
-      → (opened m Strict (plain_of st) (w ++ s) b).answer ≡ packet n → (opened m Strict (plain_of st) (w ++ s) b).used ≡ length (w ++ s)
-      → running m st (frames c st.frame s ++ r) w room b ≡ outcome st.framed c st.frame s (opened m Strict (plain_of st) (w ++ s) b)
+      → (opened m None (plain_of st) (w ++ s) b).answer ≡ packet n → (opened m None (plain_of st) (w ++ s) b).used ≡ length (w ++ s)
+      → running m st (frames c st.frame s ++ r) w room b ≡ outcome st.framed c st.frame s (opened m None (plain_of st) (w ++ s) b)
   frames-read zero st w s b h hc hu hk ho lim fits a us = none st w s b h hc hu hk ho a us
   frames-read (suc f) st w s b h hc hu hk ho lim fits a us =
       elim (dec_le (length s) 0) [
@@ -286,14 +285,14 @@ module _ (m c : ℕ) (pos : 0 < c) (most : c ≤ largest) (r : List ℕ) (room n
         | no z ↦
             let some : 0 < length s = omega arith in
             let e = wants (plain_of st) w s b ho some us in
-            let d₀ = opened m Strict (plain_of st) w b in
+            let d₀ = opened m None (plain_of st) w b in
             let w₁ : List ℕ = drop d₀.used w ++ take c s in
             let l = opened_uses m (plain_of st) w b ho in
             let all = whole_is st w s b hc hu ho lim fits some e in
             step st w s b hc hu ho lim fits some e
             (frames-read f (past_frame (with_plain st d₀.next (st.unread - d₀.used)) (length (take c s))) w₁ (drop c s) d₀.buf
             (rw length-drop (omega arith)) (record { none = refl; size = refl; coming = refl }) (rw (hu, length-append, length-drop)) (next_fits st.frame)
-            ((opened_ready m Strict (plain_of st) w b e).0 ∙ ho) (rw (opened_limit m Strict (plain_of st) w b) lim)
+            ((opened_ready m None (plain_of st) w b e).0 ∙ ho) (rw (opened_limit m None (plain_of st) w b) lim)
             (rw (length-append, length-drop, length-take, length-drop) (omega arith))
             (rw all at a)
             (let y = rw all at us in rw (length-append, length-append, length-drop, length-take, length-drop) (left_over _ _ _ _ c (rw length-append at y) l)))
@@ -343,9 +342,9 @@ unfolding unread_of
 written_is_read m c st p r s b h room fits =
     let t : List ℕ = chunks m st.number p in
     let lt : length t ≡ needed m (length p) = length-chunks m st.number p h.small in
-    let e : opened m Strict (plain_of st) (t ++ []) b ≡ whole m (plain_of st) p b =
-    opened-chunks m Strict h.small h.most (plain_of st) p [] b h.idle (omega (arith, h.start, h.within)) (omega (arith, h.start)) in
-    let e' : opened m Strict (plain_of st) t b ≡ whole m (plain_of st) p b = rw (append-nil t) at e in
+    let e : opened m None (plain_of st) (t ++ []) b ≡ whole m (plain_of st) p b =
+    opened-chunks m None h.small h.most (plain_of st) p [] b h.idle (omega (arith, h.start, h.within)) (omega (arith, h.start)) in
+    let e' : opened m None (plain_of st) t b ≡ whole m (plain_of st) p b = rw (append-nil t) at e in
     let z : 0 + length p ≡ length p = omega arith in
     let f = frames-read m c h.piece h.pieces r (length s) (length p) (length t) st [] t b (omega arith) h.clear h.none h.number
     h.live h.frames (omega arith)

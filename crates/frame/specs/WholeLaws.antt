@@ -1,5 +1,5 @@
 -- The common call with frames on: nothing begun, nothing unread, and at the front a frame that holds one whole packet of one chunk.
-use Rattle.std.specs.Prelude.{◌≡◌, ℕ, ◌+◌, ◌-◌, ◌≤◌, true, false, List, [], length, take, drop, slice_index, slice_index_or}
+use Rattle.std.specs.Prelude.{◌≡◌, ℕ, ◌+◌, ◌-◌, ◌≤◌, true, false, List, [], length, take, drop, slice_index, slice_index_or, Some}
 use Rattle.std.proofs.Math.Path.{refl, ap}
 use Rattle.std.proofs.Common.{◌∙◌, add-zero, arith, length-drop, length-take-le}
 use Rattle.std.proofs.Math.ListN.{drop_of_length-le}
@@ -8,7 +8,6 @@ use Rattle.wire.specs.Room.{patch}
 use Rattle.chunk.specs.Chunks.{next}
 use Rattle.chunk.specs.Read.{idle, packet, accepted}
 use Rattle.chunk.specs.ReadLaws.{read_whole}
-use Rattle.chunk.specs.declared.Tolerance.TheVariants.{Also}
 use Rattle.frame.specs.Codec.{plain_of, with_plain, holding_frame, past_frame, none, frame_held_of, unread_of, last_number}
 use Rattle.frame.specs.Read.{Done, Lap, took, drained, lap_at, later, running, read_framed}
 use Rattle.frame.specs.ReadLaws.{frame-headed, headed_held, body-took, lap_empty, lap_stop, framed_open, running_more, running-stop}
@@ -34,7 +33,7 @@ module _ (m : ℕ) (c : PacketCodec) (u s b : List ℕ) where
     pub number : slice_index_or u 3 0 ≡ c.frame
     pub staging : size ≤ length s
     pub one : size ≡ le_at body 0 3 + 4
-    pub sync : accepted (Also (last_number (next c.frame))) c.number (slice_index body 3) ≡ true
+    pub sync : accepted (Some (last_number (next c.frame))) c.number (slice_index body 3) ≡ true
     pub room : le_at body 0 3 ≤ length b
     pub last : le_at body 0 3 ≡ m → ⊥
 
@@ -72,7 +71,7 @@ module _ (m : ℕ) (c : PacketCodec) (u s b : List ℕ) where
         }
     unfolding drained
     packet_out =
-        let e = read_whole m (Also (last_number (next c.frame))) c.limit c.number body b (omega (arith, body-length, f.one)) f.sync
+        let e = read_whole m (Some (last_number (next c.frame))) c.limit c.number body b (omega (arith, body-length, f.one)) f.sync
         (omega (arith, f.limit, f.one)) f.room f.last in
         let left : c.unread + size - (le_at body 0 3 + 4) ≡ 0 = omega (arith, f.clean, f.one) in
         let rest : drop (le_at body 0 3 + 4) body ≡ [] = drop_of_length-le body {i = le_at body 0 3 + 4} (omega (arith, body-length, f.one)) in

@@ -1,12 +1,12 @@
 -- Writing stored frames, by 01's "Stored frames".
+use Rattle.chunk.specs.declared.Encoded.{Encoded}
 use Rattle.std.specs.Prelude.{ℕ, cond, List, length, ◌==◌, nat_lt}
-use Rattle.refusal.specs.Said.{Said, gives, refused}
-use Rattle.wire.specs.Room.{patch, put_said}
+use Rattle.refusal.specs.Said.{Said, gives, refused, said_of}
+use Rattle.wire.specs.Room.{patch}
 use Rattle.chunk.specs.Chunks.{chunks, needed}
 use Rattle.frame.specs.Frames.{frames, frames_need, frames_after}
 use Rattle.frame.specs.Codec.{renumbered}
 use Rattle.frame.specs.declared.PacketCodec.{PacketCodec}
-use Rattle.frame.specs.declared.FrameEncoded.{FrameEncoded}
 
 -- "The writer cuts the chunk stream of T bytes into pieces of min(M, limit)"
 unfoldable pub piece_of : ℕ → ℕ → ℕ
@@ -40,5 +40,5 @@ write_framed m c p d =
     }))))
 
 -- what the code's answer says, with the buffer at its exit
-abbrev pub sent_of : FrameEncoded → List ℕ → Sent
-sent_of r d = record { said = put_said r.put; next = r.next; buf = d }
+abbrev pub sent_of : Encoded PacketCodec → List ℕ → Sent
+sent_of r d = record { said = said_of r.put; next = r.next; buf = d }

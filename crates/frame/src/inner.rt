@@ -29,14 +29,10 @@ pub fn with_plain(codec: PacketCodec, st: PlainPacketCodec, unread: usize) -> Pa
         taken: st.taken,
         len: st.len,
         unread,
-        size: codec.size,
         number: st.number,
         waiting: st.waiting,
         ahead: st.ahead,
         closed: st.closed,
-        frame: codec.frame,
-        held: codec.held,
-        coming: codec.coming,
-        framed: codec.framed,
+        ..codec
     }
 }

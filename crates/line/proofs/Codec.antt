@@ -1,4 +1,5 @@
 -- Demand 3 of the whole codec, frames off: its reader, seen through its plain state, is the plain one, and so is its writer.
+use Rattle.std.specs.Prelude.{None}
 use Prim.Native.Nat.{ℕ}
 use mathlib.Core.Path.{◌≡◌, refl, sym, ap, ◌∙◌}
 use mathlib.Core.Bool.{false}
@@ -11,7 +12,6 @@ use Rattle.chunk.specs.Read.{idle, read}
 use Rattle.chunk.specs.Write as W
 use Rattle.chunk.specs.Write.{write}
 use Rattle.chunk.specs.declared.PlainPacketCodec.{PlainPacketCodec}
-use Rattle.chunk.specs.declared.Tolerance.TheVariants.{Strict}
 use Rattle.frame.specs.Codec.{plain_of}
 use Rattle.frame.specs.Read.{Done}
 use Rattle.frame.specs.Write.{Sent}
@@ -34,7 +34,7 @@ Off c = c.framed ≡ false
 
 module _ (f : CodecDecoder) (meets : CodecDecodes f) (staging : PacketCodec → (u b : List ℕ) → List ℕ) where
   -- a call with frames off is the plain reader's, and leaves them off
-  same : (c : PacketCodec) (u b : List ℕ) → Off c → called_of (read largest Strict (plain_of c) u b) ≡ seen_call plain_of ((codec_end f staging).reader c u b)
+  same : (c : PacketCodec) (u b : List ℕ) → Off c → called_of (read largest None (plain_of c) u b) ≡ seen_call plain_of ((codec_end f staging).reader c u b)
   same c u b k =
       let s = staging c u b in
       sym (ap (λ (d : Done). called_of (plain_done d)) (meets c u s b).done ∙ ap called_of (plain_reader largest c u s b k))

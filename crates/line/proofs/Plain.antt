@@ -1,5 +1,6 @@
 -- The plain reader as an end of a line: it can be read in parts, and what the host's calls make of one chunk or one packet at the front
 -- of the unread bytes, whatever stands behind it.
+use Rattle.std.specs.Prelude.{Option, None}
 use Prim.Native.Nat.{ℕ, suc, ◌+◌, ◌≤◌, ◌<◌}
 use mathlib.Core.Path.{◌≡◌, refl, sym, ap, ◌∙◌}
 use mathlib.Core.Bool.{Bool, true, false, cond}
@@ -20,8 +21,6 @@ use Rattle.chunk.specs.ReadLaws.{chunk_sync, opened-stop, opened_more, opened_no
 use Rattle.chunk.specs.ResumeLaws.{by_turns, resume, stays}
 use Rattle.chunk.specs.RoundLaws.{header-length, header-number, payload, turn_chunk, whole, opened-chunks}
 use Rattle.chunk.specs.declared.PlainPacketCodec.{PlainPacketCodec}
-use Rattle.chunk.specs.declared.Tolerance.{Tolerance}
-use Rattle.chunk.specs.declared.Tolerance.TheVariants.{Strict}
 use Rattle.line.specs.Host.{handed, Reader, Habit, first, calls}
 use Rattle.line.specs.HostLaws.{Steady, still, Shut, calls_packet, calls_wait, calls_later}
 use Rattle.line.specs.Code.{called_of, plain_end}
@@ -36,7 +35,7 @@ unfolding took
 took_takes m st len num u b =
     by_test (λ (t : Turned). Takes t.done) (eqb len m) (took_more st len num u b) (took_last st len num u b) (λ _ n e. omega arith) (λ _ n e. omega arith)
 
-turn_takes : (m : ℕ) (x : Tolerance) (st : PlainPacketCodec) (u b : List ℕ) → Takes (turn_of m x st u b).done
+turn_takes : (m : ℕ) (x : Option ℕ) (st : PlainPacketCodec) (u b : List ℕ) → Takes (turn_of m x st u b).done
 turn_takes m x st u b =
     turn_ends (λ (t : Turned). Takes t.done) m x st u b
     (record {
@@ -45,7 +44,7 @@ turn_takes m x st u b =
       takes = λ st' k len num h r. took_takes m st' len num u b;
     })
 
-module _ (m : ℕ) (x : Tolerance) where
+module _ (m : ℕ) (x : Option ℕ) where
   abbrev Call : PlainPacketCodec → List ℕ → List ℕ → Type 0
   Call st u b = Takes (opened m x st u b)
 
@@ -64,10 +63,10 @@ module _ (m : ℕ) (x : Tolerance) where
 
 pub steady : (m : ℕ) → Steady PlainPacketCodec (plain_end m).reader
 steady m = record {
-  uses = λ st u b. read_uses m Strict st u b;
-  takes = λ st u b. takes_by m Strict st u b st.closed refl;
-  resumes = λ st u v b e. ap called_of (resume m Strict st u v b e);
-  stays = λ st u v b e. ap called_of (stays m Strict st u v b e);
+  uses = λ st u b. read_uses m None st u b;
+  takes = λ st u b. takes_by m None st u b st.closed refl;
+  resumes = λ st u v b e. ap called_of (resume m None st u v b e);
+  stays = λ st u v b e. ap called_of (stays m None st u v b e);
 }
 
 -- an open reader that remembers no header and has taken t bytes of a packet
@@ -80,13 +79,13 @@ module _ (m : ℕ) (habit : Habit PlainPacketCodec) where
 
   -- a closed one answers 7
   pub shut : (st : PlainPacketCodec) → st.closed ≡ true → Shut r habit (steady m) st
-  shut st c u b = ap called_of (read-closed m Strict st u b c)
+  shut st c u b = ap called_of (read-closed m None st u b c)
 
   -- of no bytes nothing is seen
   pub calls_none : (n l k t : ℕ) (b : List ℕ) → calls r habit n (within l k t) [] b ≡ still n (within l k t) [] b
   calls_none n l k t b =
       calls_wait r habit (steady m) n (within l k t) [] b _
-      (ap called_of (read_open m Strict (within l k t) [] b refl ∙ opened_none m Strict (within l k t) b)) refl
+      (ap called_of (read_open m None (within l k t) [] b refl ∙ opened_none m None (within l k t) b)) refl
 
   -- ---- a chunk of m bytes in its place: the packet goes on behind it
 
@@ -96,20 +95,20 @@ module _ (m : ℕ) (habit : Habit PlainPacketCodec) where
     chunk-goes n l k t q x b lq lim room =
         let st : PlainPacketCodec = within l k t in
         let u : List ℕ = chunk k q ++ x in
-        let w : turn_of m Strict st u b ≡ took_more st m k u b =
-        turn_chunk m Strict st q x b refl (omega arith) (omega arith) (omega arith)
+        let w : turn_of m None st u b ≡ took_more st m k u b =
+        turn_chunk m None st q x b refl (omega arith) (omega arith) (omega arith)
         ∙ ap (λ (j : ℕ). took m st j k u b) lq
         ∙ took_more_lem m st m k u b refl in
         let d : drop (m + 4) u ≡ x = drop_at (chunk k q) x (m + 4) (length-chunk k q ∙ ap (λ (j : ℕ). j + 4) lq) in
         let bytes : take m (drop 4 u) ≡ q = ap (λ (j : ℕ). take j (drop 4 u)) (sym lq) ∙ payload k q x in
         calls_later r habit (steady m) n (m + 4) st (within l (next k) (t + m)) u x b (patch b t q) d
         (rw (
-          read_open m Strict st u b refl,
-          opened_more m Strict st u b (rw w),
+          read_open m None st u b refl,
+          opened_more m None st u b (rw w),
           w,
           d,
           bytes,
-          read_open m Strict (within l (next k) (t + m)) x
+          read_open m None (within l (next k) (t + m)) x
               (patch b t q) refl,
         ))
 
@@ -123,8 +122,8 @@ module _ (m : ℕ) (habit : Habit PlainPacketCodec) where
         let d : drop (needed m (length p)) u ≡ x = drop_at (chunks m k p) x (needed m (length p)) (length-chunks m k p pos) in
         let bytes : take (0 + length p) (patch b 0 p) ≡ p = ap (λ (j : ℕ). take j (patch b 0 p)) (zero-add (length p)) ∙ take-append_seam p
         (drop (0 + length p) b) in
-        let e : read m Strict (idle l k) u b ≡ whole m (idle l k) p b =
-        read_open m Strict (idle l k) u b refl ∙ opened-chunks m Strict pos fits (idle l k) p x b refl (rw zero-add lim) (omega arith) in
+        let e : read m None (idle l k) u b ≡ whole m (idle l k) p b =
+        read_open m None (idle l k) u b refl ∙ opened-chunks m None pos fits (idle l k) p x b refl (rw zero-add lim) (omega arith) in
         calls_packet r habit (steady m) n (idle l k) u b (called_of (whole m (idle l k) p b)) (0 + length p) (ap called_of e) refl
         ∙ rw (acts, d) (ap (λ (y : List ℕ). first (handed y) (calls r habit (suc n) (idle l (after m k (length p))) x (habit.lends n (patch b 0 p)))) bytes)
 
@@ -136,22 +135,22 @@ refusal_by l t len = cond (eqb len 0) 3 (cond (ltb l (t + len)) 2 3)
 
 pub data Shuts (m l q t k : ℕ) (p x b : List ℕ) : Type 0 where
   shuts : (st : PlainPacketCodec) → st.closed ≡ true
-      → read m Strict (within l q t) (chunk k p ++ x) b ≡ record { answer = refused (refusal_by l t (length p)); used = 0; next = st; buf = b }
+      → read m None (within l q t) (chunk k p ++ x) b ≡ record { answer = refused (refusal_by l t (length p)); used = 0; next = st; buf = b }
       → Shuts m l q t k p x b
 
 module _ (m l q t k : ℕ) (p x b : List ℕ) (fits : length p ≤ largest) (other : k ≡ q → ⊥) where
   abbrev u : List ℕ
   u = chunk k p ++ x
 
-  headed_is : turn_of m Strict (within l q t) u b ≡ Rattle.chunk.specs.Read.headed m Strict (within l q t) (length p) k u b
+  headed_is : turn_of m None (within l q t) u b ≡ Rattle.chunk.specs.Read.headed m None (within l q t) (length p) k u b
   headed_is =
-      turn_headed m Strict (within l q t) u b refl (omega (arith, length-append (chunk k p) x, length-chunk k p))
+      turn_headed m None (within l q t) u b refl (omega (arith, length-append (chunk k p) x, length-chunk k p))
       ∙ rw (header-length k p x fits, header-number k p x)
 
   -- by what its turn does
   by_turn : (c : ℕ) (st : PlainPacketCodec) → st.closed ≡ true → refusal_by l t (length p) ≡ c
-      → turn_of m Strict (within l q t) u b ≡ stop (refused c) st b → Shuts m l q t k p x b
-  by_turn c st z e w = shuts st z (read_open m Strict (within l q t) u b refl ∙ opened-stop m Strict (within l q t) u b (rw w) ∙ rw (w, e))
+      → turn_of m None (within l q t) u b ≡ stop (refused c) st b → Shuts m l q t k p x b
+  by_turn c st z e w = shuts st z (read_open m None (within l q t) u b refl ∙ opened-stop m None (within l q t) u b (rw w) ∙ rw (w, e))
 
   pub chunk_shuts : Shuts m l q t k p x b
   chunk_shuts =
@@ -161,17 +160,17 @@ module _ (m l q t k : ℕ) (p x b : List ℕ) (fits : length p ≤ largest) (oth
         | yes z ↦
             let e : length p ≡ 0 = omega arith in
             by_turn 3 (closed (within l q t)) refl (rw (eq-eqb (length p) 0 e))
-            (headed_is ∙ headed_empty m Strict (within l q t) (length p) k u b e ∙ chunk_sync m Strict (within l q t) 0 k u b (omega arith) a)
+            (headed_is ∙ headed_empty m None (within l q t) (length p) k u b e ∙ chunk_sync m None (within l q t) 0 k u b (omega arith) a)
         | no z ↦
             let e : length p ≡ 0 → ⊥ = λ y. z (omega arith) in
             elim (dec_le (t + length p) l) [
               | yes h ↦
                   by_turn 3 (closed (holding (within l q t) (length p) k)) refl (rw (ne_eqb (length p) 0 e, le-ltb l (t + length p) h))
-                  (headed_is ∙ headed_held m Strict (within l q t) (length p) k u b e h
-                  ∙ chunk_sync m Strict (holding (within l q t) (length p) k) (length p) k u b long a)
+                  (headed_is ∙ headed_held m None (within l q t) (length p) k u b e h
+                  ∙ chunk_sync m None (holding (within l q t) (length p) k) (length p) k u b long a)
               | no h ↦
                   let g : l < t + length p = omega arith in
                   by_turn 2 (closed (within l q t)) refl (rw (ne_eqb (length p) 0 e, lt-ltb l (t + length p) g))
-                  (headed_is ∙ headed_large m Strict (within l q t) (length p) k u b e g)
+                  (headed_is ∙ headed_large m None (within l q t) (length p) k u b e g)
             ]
       ]

@@ -1,4 +1,5 @@
 -- The straight-through reader and the waiting one side by side, chunk by chunk over the same bytes, all in one piece.
+use Rattle.std.specs.Prelude.{None}
 use Prim.Native.Nat.{ℕ, zero, suc, ◌+◌, ◌-◌, ◌≤◌, ◌<◌}
 use mathlib.Core.Path.{◌≡◌, refl, sym, ap, ◌∙◌}
 use mathlib.Core.Bool.{Bool, true, false}
@@ -13,7 +14,6 @@ use Rattle.wire.specs.Room.{patch}
 use Rattle.wire.specs.RoomLaws.{length-patch}
 use Rattle.chunk.specs.Chunks.{next}
 use Rattle.chunk.specs.declared.PlainPacketCodec.{PlainPacketCodec}
-use Rattle.chunk.specs.declared.Tolerance.TheVariants.{Strict}
 use Rattle.chunk.specs.Read as W
 use Rattle.chunk.specs.ReadLaws as L
 use Rattle.stream.specs.Stream.{begun, refuse, payload, headed, pass}
@@ -61,14 +61,14 @@ module _ (m : ℕ) (habit : Habit PlainPacketCodec) where
   r = (plain_end m).reader
 
   module _ (n : ℕ) (st : PlainPacketCodec) (u b : List ℕ) (c : st.closed ≡ false) where
-    by_stop : (a : W.Answered) (st' : PlainPacketCodec) → W.turn_of m Strict st u b ≡ W.stop a st' b
+    by_stop : (a : W.Answered) (st' : PlainPacketCodec) → W.turn_of m None st u b ≡ W.stop a st' b
         → r st u b ≡ record { answer = a; used = 0; next = st'; buf = b }
-    by_stop a st' e = ap called_of (L.read_open m Strict st u b c ∙ L.opened-stop m Strict st u b (rw e) ∙ rw e)
+    by_stop a st' e = ap called_of (L.read_open m None st u b c ∙ L.opened-stop m None st u b (rw e) ∙ rw e)
 
-    waits : (st' : PlainPacketCodec) → W.turn_of m Strict st u b ≡ W.stop W.need_more st' b → calls r habit n st u b ≡ H.still n st' u b
+    waits : (st' : PlainPacketCodec) → W.turn_of m None st u b ≡ W.stop W.need_more st' b → calls r habit n st u b ≡ H.still n st' u b
     waits st' e = H.calls_wait r habit (steady m) n st u b _ (by_stop W.need_more st' e) refl
 
-    refuses : (j : ℕ) (st' : PlainPacketCodec) → W.turn_of m Strict st u b ≡ W.stop (W.refused j) st' b
+    refuses : (j : ℕ) (st' : PlainPacketCodec) → W.turn_of m None st u b ≡ W.stop (W.refused j) st' b
         → calls r habit n st u b ≡ record { events = refusal j ∷ []; packets = n; state = st'; unread = u; buffer = b }
     refuses j st' e = H.calls_refused r habit (steady m) n st u b _ j (by_stop (W.refused j) st' e) refl
 
@@ -82,7 +82,7 @@ module _ (m l : ℕ) (habit : Habit PlainPacketCodec) where
     -- less than a header
     short : length u < 4 → Both n k t sofar u b
     short h =
-        rw (waits m habit n (within l k t) u b refl (within l k t) (L.turn_short m Strict (within l k t) u b refl h))
+        rw (waits m habit n (within l k t) u b refl (within l k t) (L.turn_short m None (within l k t) u b refl h))
         (elim (ℕ_discrete (length u) 0) [
           | yes z ↦ rw (run_none m (between l k t) sofar u z) (record { agrees = same refl; number = λ _. (refl, refl); shuts = quiet })
           | no z ↦
@@ -100,12 +100,12 @@ module _ (m l : ℕ) (habit : Habit PlainPacketCodec) where
       passes_headed : pass m (between l k t) u ≡ headed m (between l k t) len num 4 (length u - 4)
       passes_headed = pass-header m (between l k t) u refl (omega arith) refl ∙ header-whole m (between l k t) u u long
 
-      turns-headed : W.turn_of m Strict (within l k t) u b ≡ W.headed m Strict (within l k t) len num u b
-      turns-headed = L.turn_headed m Strict (within l k t) u b refl long
+      turns-headed : W.turn_of m None (within l k t) u b ≡ W.headed m None (within l k t) len num u b
+      turns-headed = L.turn_headed m None (within l k t) u b refl long
 
       -- both refuse
       both-refuse : (j : ℕ) (st : Stream) (st' : PlainPacketCodec) → pass m (between l k t) u ≡ refuse j st
-          → W.turn_of m Strict (within l k t) u b ≡ W.stop (W.refused j) st' b → st'.closed ≡ true → Both n k t sofar u b
+          → W.turn_of m None (within l k t) u b ≡ W.stop (W.refused j) st' b → st'.closed ≡ true → Both n k t sofar u b
       both-refuse j st st' e e' z =
           rw (run_refused m (between l k t) sofar u (omega arith) j st e, refuses m habit n (within l k t) u b refl j st' e')
           (record { agrees = same refl; number = λ y. absurd (omega arith); shuts = λ _. z })
@@ -113,12 +113,12 @@ module _ (m l : ℕ) (habit : Habit PlainPacketCodec) where
       large : (len ≡ 0 → ⊥) → l < t + len → Both n k t sofar u b
       large z h =
           both-refuse 2 _ _ (passes_headed ∙ headed_large m (between l k t) len num 4 (length u - 4) z h)
-          (turns-headed ∙ L.headed_large m Strict (within l k t) len num u b z h) refl
+          (turns-headed ∙ L.headed_large m None (within l k t) len num u b z h) refl
 
       -- ---- a chunk within the limit
 
       data At : Type 0 where
-        at_chunk : (st : PlainPacketCodec) → st.number ≡ k → W.turn_of m Strict (within l k t) u b ≡ W.chunk_at m Strict st len num u b → At
+        at_chunk : (st : PlainPacketCodec) → st.number ≡ k → W.turn_of m None (within l k t) u b ≡ W.chunk_at m None st len num u b → At
 
       module _ (fits : t + len ≤ l) where
         at : At
@@ -126,8 +126,8 @@ module _ (m l : ℕ) (habit : Habit PlainPacketCodec) where
             elim (ℕ_discrete len 0) [
               | yes z ↦
                   at_chunk (within l k t) refl
-                  (turns-headed ∙ L.headed_empty m Strict (within l k t) len num u b z ∙ ap (λ (j : ℕ). W.chunk_at m Strict (within l k t) j num u b) (sym z))
-              | no z ↦ at_chunk (W.holding (within l k t) len num) refl (turns-headed ∙ L.headed_held m Strict (within l k t) len num u b z fits)
+                  (turns-headed ∙ L.headed_empty m None (within l k t) len num u b z ∙ ap (λ (j : ℕ). W.chunk_at m None (within l k t) j num u b) (sym z))
+              | no z ↦ at_chunk (W.holding (within l k t) len num) refl (turns-headed ∙ L.headed_held m None (within l k t) len num u b z fits)
             ]
 
         -- a wrong number: 3, and the waiting reader says it when the chunk is whole
@@ -135,11 +135,11 @@ module _ (m l : ℕ) (habit : Habit PlainPacketCodec) where
         wrong_by q (at_chunk st e f) =
             let p = passes_headed ∙ headed_wrong m (between l k t) len num 4 (length u - 4) (λ _. fits) q in
             elim (dec_le (len + 4) (length u)) [
-              | yes w ↦ both-refuse 3 _ (W.closed st) p (f ∙ L.chunk_sync m Strict st len num u b w (rw e (ne_eqb num k q))) refl
+              | yes w ↦ both-refuse 3 _ (W.closed st) p (f ∙ L.chunk_sync m None st len num u b w (rw e (ne_eqb num k q))) refl
               | no w ↦
                   rw (
                     run_refused m (between l k t) sofar u (omega arith) 3 _ p,
-                    waits m habit n (within l k t) u b refl st (f ∙ L.chunk-short m Strict st len num u b (omega arith)),
+                    waits m habit n (within l k t) u b refl st (f ∙ L.chunk-short m None st len num u b (omega arith)),
                   )
                   (record { agrees = sooner [] refl refl long (omega arith); number = λ z. absurd (omega arith); shuts = quiet })
             ]
@@ -159,7 +159,7 @@ module _ (m l : ℕ) (habit : Habit PlainPacketCodec) where
           cut_by w (at_chunk st e f) =
               rw (
                 run_cut m (between l k t) sofar u (begun m (between l k t) len num) 4 (length u - 4) passes_pays (omega arith) (omega arith) (omega arith),
-                waits m habit n (within l k t) u b refl st (f ∙ L.chunk-short m Strict st len num u b w),
+                waits m habit n (within l k t) u b refl st (f ∙ L.chunk-short m None st len num u b w),
               )
               (record { agrees = same refl; number = λ z. absurd (omega arith); shuts = quiet })
 
@@ -184,13 +184,13 @@ module _ (m l : ℕ) (habit : Habit PlainPacketCodec) where
             room_then : l ≤ length (patch b t p)
             room_then = rw (length-patch b t p (omega (arith, length_p))) room
 
-            turns-took : W.turn_of m Strict (within l k t) u b ≡ W.took m (within l k t) len num u b
-            turns-took = L.turn_takes m Strict (within l k t) u b refl w (eq-eqb num k q) fits (omega arith)
+            turns-took : W.turn_of m None (within l k t) u b ≡ W.took m (within l k t) len num u b
+            turns-took = L.turn_takes m None (within l k t) u b refl w (eq-eqb num k q) fits (omega arith)
 
             goes_on : len ≡ m → Both n (next num) (t + len) (sofar ++ p) x (patch b t p) → Both n k t sofar u b
             goes_on e ih =
                 let st : PlainPacketCodec = within l (next num) (t + len) in
-                let tw : W.turn_of m Strict (within l k t) u b ≡ L.took_more (within l k t) len num u b =
+                let tw : W.turn_of m None (within l k t) u b ≡ L.took_more (within l k t) len num u b =
                 turns-took ∙ L.took_more_lem m (within l k t) len num u b e in
                 let s : run m (between l k t) sofar u ≡ run m (between l (next num) (t + len)) (sofar ++ p) x =
                 run_ends m (between l k t) sofar u (begun m (between l k t) len num) 4 (length u - 4) passes_pays (omega arith) (omega arith)
@@ -198,10 +198,10 @@ module _ (m l : ℕ) (habit : Habit PlainPacketCodec) where
                 let c : calls (plain_end m).reader habit n (within l k t) u b ≡ calls (plain_end m).reader habit n st x (patch b t p) =
                 H.calls_later (plain_end m).reader habit (steady m) n (len + 4) (within l k t) st u x b (patch b t p) refl
                 (rw (
-                  L.read_open m Strict (within l k t) u b refl,
-                  L.opened_more m Strict (within l k t) u b (rw tw),
+                  L.read_open m None (within l k t) u b refl,
+                  L.opened_more m None (within l k t) u b (rw tw),
                   tw,
-                  L.read_open m Strict st x (patch b t p) refl,
+                  L.read_open m None st x (patch b t p) refl,
                 )) in
                 rw (s, c) ih
 
@@ -209,14 +209,14 @@ module _ (m l : ℕ) (habit : Habit PlainPacketCodec) where
                 → Both (suc n) (next num) 0 [] x (habit.lends n (patch b t p)) → Both n k t sofar u b
             hands_out acts e ih =
                 let st : PlainPacketCodec = within l (next num) 0 in
-                let tw : W.turn_of m Strict (within l k t) u b ≡ L.took_last (within l k t) len num u b =
+                let tw : W.turn_of m None (within l k t) u b ≡ L.took_last (within l k t) len num u b =
                 turns-took ∙ L.took_last_lem m (within l k t) len num u b e in
                 let s : run m (between l k t) sofar u ≡ before (handed (sofar ++ p) ∷ []) (run m (between l (next num) 0) [] x) =
                 run_ends m (between l k t) sofar u (begun m (between l k t) len num) 4 (length u - 4) passes_pays (omega arith) (omega arith)
                 ∙ rw (ne_eqb len m e, four) in
                 let d : (plain_end m).reader (within l k t) u b ≡ called_of (L.took_last (within l k t) len num u b).done =
                 ap called_of
-                (L.read_open m Strict (within l k t) u b refl ∙ L.opened-stop m Strict (within l k t) u b (rw tw) ∙ ap (λ (y : W.Turned). y.done) tw) in
+                (L.read_open m None (within l k t) u b refl ∙ L.opened-stop m None (within l k t) u b (rw tw) ∙ ap (λ (y : W.Turned). y.done) tw) in
                 let c : calls (plain_end m).reader habit n (within l k t) u b
                 ≡ first (handed (sofar ++ p)) (calls (plain_end m).reader habit (suc n) st x (habit.lends n (patch b t p))) =
                 H.calls_packet (plain_end m).reader habit (steady m) n (within l k t) u b _ (t + len) d refl ∙ rw (acts, front_then) in

@@ -1,18 +1,16 @@
 -- There are functions that meet the two contracts on all bytes and states, so that no theorem over `Decodes` or `Encodes` is empty.
+use Rattle.std.specs.Prelude.{Result, Ok, Err, Option, Some, None}
 use Prim.Native.Nat.{ℕ, ◌+◌}
 use mathlib.Core.Path.{◌≡◌, refl, ap}
 use mathlib.Core.Bool.{cond}
 use mathlib.Core.List.{List}
 use lib.Dec.{ltb, eqb}
 use lib.ListN.{length, get_or}
-use Rattle.refusal.specs.Said.{Said, gives}
+use Rattle.refusal.specs.Said.{Said, gives, said_of}
 use Rattle.refusal.specs.Said as R
 use Rattle.refusal.specs.declared.Refusal.{Refusal}
 use Rattle.refusal.specs.declared.Refusal.TheVariants.{TooLarge, OutOfSync, NoRoom, Closed}
 use Rattle.wire.specs.Le.{le_at}
-use Rattle.wire.specs.Room.{put_said}
-use Rattle.wire.specs.declared.Put.{Put}
-use Rattle.wire.specs.declared.Put.TheVariants as P
 use Rattle.chunk.specs.Chunks.{largest, needed}
 use Rattle.chunk.specs.Read.{closed, holding, Held, none, held, held_of, Answered, need_more, packet, refused, answer_said, Done, Turned, stop, accepted}
 use Rattle.chunk.specs.Read.{took, chunk_at, headed, turn_from, turn_of, opened, read}
@@ -21,19 +19,15 @@ use Rattle.chunk.specs.ResumeLaws.{by_turns}
 use Rattle.chunk.specs.Write.{Sent, write, unsent}
 use Rattle.chunk.specs.WriteLaws.{sent}
 use Rattle.chunk.specs.declared.PlainPacketCodec.{PlainPacketCodec}
-use Rattle.chunk.specs.declared.Tolerance.{Tolerance}
-use Rattle.chunk.specs.declared.Tolerance.TheVariants.{Strict}
-use Rattle.chunk.specs.declared.Answer.{Answer}
-use Rattle.chunk.specs.declared.Answer.TheVariants as A
 use Rattle.line.specs.Code.{Decoder, Decodes, Encoder, Encodes}
 
 abbrev named : ℕ → Refusal
 named n = cond (eqb n 2) TooLarge (cond (eqb n 3) OutOfSync (cond (eqb n 6) NoRoom Closed))
 
-abbrev answer_of : Answered → Answer
-answer_of need_more = A.NeedMore
-answer_of (packet n) = A.Packet n
-answer_of (refused k) = A.Refused (named k)
+abbrev answer_of : Answered → Result (Option ℕ) Refusal
+answer_of need_more = Ok None
+answer_of (packet n) = Ok (Some n)
+answer_of (refused k) = Err (named k)
 
 -- an answer that has a name
 abbrev Named : Answered → Type 0
@@ -42,7 +36,7 @@ Named a = answer_said (answer_of a) ≡ a
 abbrev NamedTurn : Turned → Type 0
 NamedTurn t = Named t.done.answer
 
-module _ (m : ℕ) (x : Tolerance) where
+module _ (m : ℕ) (x : Option ℕ) where
   chunk-named : (st : PlainPacketCodec) (len num : ℕ) (u b : List ℕ) → NamedTurn (chunk_at m x st len num u b)
   unfolding chunk_at took
   chunk-named st len num u b =
@@ -81,23 +75,23 @@ module _ (m : ℕ) (x : Tolerance) where
 pub some_decoder_lem : (f : Decoder) × Decodes f
 some_decoder_lem = (
   record {
-    answers = λ st u b. let d : Done = read largest Strict st u b in record { answer = answer_of d.answer; used = d.used; next = d.next };
-    leaves = λ st u b. (read largest Strict st u b).buf;
+    answers = λ st u b. let d : Done = read largest None st u b in record { answer = answer_of d.answer; used = d.used; next = d.next };
+    leaves = λ st u b. (read largest None st u b).buf;
   },
-  λ st u b. let d : Done = read largest Strict st u b in
-      ap (λ (a : Answered). record { answer = a; used = d.used; next = d.next; buf = d.buf }) (read_named largest Strict st u b),
+  λ st u b. let d : Done = read largest None st u b in
+      ap (λ (a : Answered). record { answer = a; used = d.used; next = d.next; buf = d.buf }) (read_named largest None st u b),
 )
 
-abbrev put_of : Said ℕ → Put
-put_of (gives n) = P.Next n
-put_of (R.refused k) = P.Refused (named k)
+abbrev put_of : Said ℕ → Result ℕ Refusal
+put_of (gives n) = Ok n
+put_of (R.refused k) = Err (named k)
 
-write-named : (m : ℕ) (st : PlainPacketCodec) (p d : List ℕ) → put_said (put_of (write m st p d).said) ≡ (write m st p d).said
+write-named : (m : ℕ) (st : PlainPacketCodec) (p d : List ℕ) → said_of (put_of (write m st p d).said) ≡ (write m st p d).said
 unfolding write
 write-named m st p d =
-    by_test (λ (s : Sent). put_said (put_of s.said) ≡ s.said) st.closed (unsent 7 st d) _ (λ _. refl)
-    (λ _. by_test (λ (s : Sent). put_said (put_of s.said) ≡ s.said) (ltb st.limit (length p)) (unsent 2 st d) _ (λ _. refl)
-    (λ _. by_test (λ (s : Sent). put_said (put_of s.said) ≡ s.said) (ltb (length d) (needed m (length p))) (unsent 6 st d) (sent m st p d)
+    by_test (λ (s : Sent). said_of (put_of s.said) ≡ s.said) st.closed (unsent 7 st d) _ (λ _. refl)
+    (λ _. by_test (λ (s : Sent). said_of (put_of s.said) ≡ s.said) (ltb st.limit (length p)) (unsent 2 st d) _ (λ _. refl)
+    (λ _. by_test (λ (s : Sent). said_of (put_of s.said) ≡ s.said) (ltb (length d) (needed m (length p))) (unsent 6 st d) (sent m st p d)
     (λ _. refl) (λ _. refl)))
 
 pub some_encoder_lem : (g : Encoder) × Encodes g

@@ -1,6 +1,8 @@
 -- Request W7: over any cutting of any input the straight-through reader's host sees what the waiting one's does (`straight`), and what
 -- that means for the packets (`packets_same`) and for a refusal (`whole_same`, `refusal_same`),
 -- also where the waiting host's bytes are cut in other pieces (`packets_served`).
+use Rattle.chunk.specs.declared.Decoded.{Decoded}
+use Rattle.stream.specs.declared.Piece.{Piece}
 use Prim.Native.Nat.{ℕ, zero, suc, ◌≤◌}
 use mathlib.Core.Path.{◌≡◌, refl, sym, ap, ◌∙◌, subst, fun_ext}
 use mathlib.Core.Bool.{Bool, true, false, cond}
@@ -12,7 +14,6 @@ use Rattle.chunk.specs.declared.PlainPacketCodec.{PlainPacketCodec}
 use Rattle.chunk.specs.Read as Waiting
 use Rattle.stream.specs.Stream.{idle, pass}
 use Rattle.stream.specs.declared.Stream.{Stream}
-use Rattle.stream.specs.declared.Passed.{Passed}
 use Rattle.line.specs.Host.{Event, handed, refusal, Reader, Habit, Host, calls, serve}
 use Rattle.line.specs.HostLaws.{refusing, serve_waits, serve_shut}
 use Rattle.line.specs.Code.{plain_end}
@@ -28,10 +29,10 @@ straight m = record {
 }
 
 -- any code that meets the contract is the same reader
-pub same_through : (f : Stream → List ℕ → Passed) → Passes f → pass largest ≡ code_through f
+pub same_through : (f : Stream → List ℕ → Decoded Piece Stream) → Passes f → pass largest ≡ code_through f
 same_through f h = fun_ext (λ st. fun_ext (λ u. sym (h st u)))
 
-pub code_straight : (f : Stream → List ℕ → Passed) → Passes f → Straight largest (code_through f)
+pub code_straight : (f : Stream → List ℕ → Decoded Piece Stream) → Passes f → Straight largest (code_through f)
 code_straight f h = subst (Straight largest) (same_through f h) (straight largest)
 
 -- ---- what it means, of any reader of which it is true

@@ -1,5 +1,7 @@
 -- Demand 3 with the straight-through reader (`straight_line`), by what the waiting one does on the same bytes, and so with all code that
 -- meets the contract of `stream::pass` (`code_straight_line`).
+use Rattle.chunk.specs.declared.Decoded.{Decoded}
+use Rattle.stream.specs.declared.Piece.{Piece}
 use Prim.Native.Nat.{ℕ, zero, suc, ◌+◌, ◌-◌, ◌%◌, ◌≤◌, ◌<◌}
 use mathlib.Core.Path.{◌≡◌, refl, sym, ap, ◌∙◌, subst}
 use mathlib.Core.Bool.{Bool, true, false, cond}
@@ -15,7 +17,6 @@ use Rattle.chunk.specs.ReadLaws.{by_test}
 use Rattle.stream.specs.Stream.{idle, kept, keeping, further, ended, refuse, payload, pass}
 use Rattle.stream.specs.StreamLaws.{pass-closed}
 use Rattle.stream.specs.declared.Stream.{Stream}
-use Rattle.stream.specs.declared.Passed.{Passed}
 use Rattle.line.specs.Host.{Event, handed, refusal, Called, Reader, Habit, Host, after_call, calls_up_to, calls, serve}
 use Rattle.line.specs.HostLaws.{refusing}
 use Rattle.line.specs.Arrivals.{arrived, InPlace, Misplaced}
@@ -248,5 +249,5 @@ straight_line m pos fits = record {
   in_place = λ k l ps a G h pieces e. in_place_lem m pos fits k l ps a G h pieces (all_watched m pos fits k l ps a G h pieces e);
 }
 
-pub code_straight_line : (f : Stream → List ℕ → Passed) → Passes f → StraightLine largest (code_through f)
+pub code_straight_line : (f : Stream → List ℕ → Decoded Piece Stream) → Passes f → StraightLine largest (code_through f)
 code_straight_line f h = subst (StraightLine largest) (same_through f h) (straight_line largest (omega arith) (omega arith))

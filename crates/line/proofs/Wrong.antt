@@ -1,4 +1,5 @@
 -- Four wrong readers, each refused by the demand. The line is two packets of one byte, 1 and 2, from number 254 on, at piece size 3.
+use Rattle.std.specs.Prelude.{None}
 use Prim.Native.Nat.{ℕ, zero, suc, ◌≤◌, ◌<◌}
 use mathlib.Core.Path.{◌≡◌, refl, ap}
 use mathlib.Core.Bool.{cond}
@@ -9,7 +10,6 @@ use Rattle.wire.specs.Le.{le_of, le_bytes}
 use Rattle.chunk.specs.Chunks.{next, chunk, cut, pieces, numbered, chunks_of, after}
 use Rattle.chunk.specs.Read.{idle, Answered, need_more, packet, refused, Done, took, chunk_at, headed, turn_from, turn_of, turns, opened, read}
 use Rattle.chunk.specs.declared.PlainPacketCodec.{PlainPacketCodec}
-use Rattle.chunk.specs.declared.Tolerance.TheVariants.{Strict}
 use Rattle.line.specs.Host.{Event, handed, refusal, Reader, Habit, calls_up_to, calls, serve}
 use Rattle.line.specs.Arrivals.{arrived, Misplaced}
 use Rattle.line.specs.Written.{written, complete, begun}
@@ -89,7 +89,7 @@ once_by (refused k) st = live st
 once_by (packet n) st = spent
 
 once_reads : Reader Once
-once_reads (live st) u b = let d : Done = read 3 Strict st u b in record {
+once_reads (live st) u b = let d : Done = read 3 None st u b in record {
   answer = d.answer;
   used = d.used;
   next = once_by d.answer
@@ -113,7 +113,7 @@ once_wrong L = let e : ◌≡◌ {A = ℕ} 1 2 = ap length (must Once once L) in
 
 pub copies_nothing : End PlainPacketCodec
 copies_nothing = record {
-  reader = λ st u b. let d : Done = read 3 Strict st u b in record { answer = d.answer; used = d.used; next = d.next; buf = b };
+  reader = λ st u b. let d : Done = read 3 None st u b in record { answer = d.answer; used = d.used; next = d.next; buf = b };
   idle = idle;
   number = λ st. st.number;
 }
@@ -131,7 +131,7 @@ copies_nothing_wrong L = let e : ◌≡◌ {A = ℕ} 0 1 = ap first_byte (must P
 
 pub hands_after : End PlainPacketCodec
 hands_after = record {
-  reader = λ st u b. cond st.closed (record { answer = packet 1; used = length u; next = st; buf = drop 4 u }) (called_of (read 3 Strict st u b));
+  reader = λ st u b. cond st.closed (record { answer = packet 1; used = length u; next = st; buf = drop 4 u }) (called_of (read 3 None st u b));
   idle = idle;
   number = λ st. st.number;
 }

@@ -1,4 +1,6 @@
 -- Request W7: what a host sees through a straight-through reader, beside what it sees through the waiting one. m is the piece size.
+use Rattle.chunk.specs.declared.Decoded.{Decoded}
+use Rattle.stream.specs.declared.Piece.{Piece}
 use Rattle.std.specs.Prelude.{ℕ, zero, suc, ◌+◌, ◌-◌, ◌%◌, ◌≤◌, ◌<◌, ◌≡◌, Bool, true, false, cond, length, take, drop, eqb}
 use mathlib.Core.List.{List, [], ◌∷◌, ◌++◌, map, flatten}
 use Rattle.wire.specs.Le.{le_at}
@@ -7,7 +9,6 @@ use Rattle.chunk.specs.declared.PlainPacketCodec.{PlainPacketCodec}
 use Rattle.chunk.specs.Read as Waiting
 use Rattle.stream.specs.Stream.{Answered, need_more, part, refused, Done, done_of, idle, refuse, pass}
 use Rattle.stream.specs.declared.Stream.{Stream}
-use Rattle.stream.specs.declared.Passed.{Passed}
 use Rattle.line.specs.Host.{Event, handed, refusal, Habit, Host, calls}
 use Rattle.line.specs.Arrivals.{arrived, InPlace, Misplaced}
 use Rattle.line.specs.Written.{written, writer, complete}
@@ -106,8 +107,8 @@ pub record StraightLine (m : ℕ) (r : Through) : Type 0 where
 
 -- ---- as code: any that meets the contract of `stream::pass`
 
-abbrev pub Passes : (Stream → List ℕ → Passed) → Type 0
+abbrev pub Passes : (Stream → List ℕ → Decoded Piece Stream) → Type 0
 Passes f = (st : Stream) (src : List ℕ) → done_of (f st src) ≡ pass largest st src
 
-abbrev pub code_through : (Stream → List ℕ → Passed) → Through
+abbrev pub code_through : (Stream → List ℕ → Decoded Piece Stream) → Through
 code_through f st u = done_of (f st u)

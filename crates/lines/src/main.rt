@@ -1,521 +1,342 @@
-// Demand 3 at work: sixteen thousand lines that lose, repeat and move chunks, each against what the paper says. A line is made
-// out of its number alone, by a small generator: the packets, the number to start with, what arrives and how it is cut. Every
-// packet is one chunk here. Anything that differs is printed; the counts are reckoned apart in host/data/lines.py.
+// Demand 3 of docs/STATEMENTS.md at work: sixteen thousand lines that lose, repeat and move chunks, each against what the paper says. A
+// line is made out of its number alone, by a small generator: the packets, the number to start with, what arrives and how it is cut.
+// Every packet is one chunk here. Anything that differs is printed; the counts are reckoned apart in host/data/lines.py, whose generator
+// is this one.
 #![tactic(auto)]
 
-ghost use Rattle.std.specs.Prelude.{◌<◌, ◌≤◌};
+use chunk::PlainPacketCodec;
+use refusal::Refusal;
+use std::alloc::{AllocError, Global};
+use std::io;
+use std::num::Saturating;
+use wire::part;
 
-use chunk::{Answer, PlainPacketCodec};
-use refusal::number_of;
-use wire::{Put, part};
-
-const STDOUT_FILENO: i32 = 1;
+const SEED: usize = 1;
 
 const LINES: usize = 16_000;
 
-// A chunk's place among those written; none is longer.
-const SLOT: usize = 64;
+// No chunk is longer: it has a header of 4 bytes and a packet of at most 60.
+const CHUNK_ROOM: usize = 64;
 
-// ---- the generator: a number below 2^31 - 1 out of a line's number, what it is for and a count
+// ---- the generator
 
-fn mixed(x: usize) -> usize
-    ensures { result < 2147483647 }
-{
-    let y = x % 2_147_483_647;
-    (y % 65_536 * 32_768 + y / 65_536) % 2_147_483_647 * 48_271 % 2_147_483_647
+const MODULUS: usize = 2_147_483_647;
+
+fn mixed(x: usize) -> usize {
+    let y = x % MODULUS;
+    (y % 65_536 * 32_768 + y / 65_536) % MODULUS * 48_271 % MODULUS
 }
 
-fn draw(s: usize, what: usize, n: usize) -> usize
-    ensures { result < 2147483647 }
-{
-    let x = s % 2_147_483_647 * 48_271
-        + what % 2_147_483_647 * 104_729
-        + n % 2_147_483_647 * 69_621
-        + 1;
-    mixed(mixed(x))
+// Numbers below the modulus, each out of a seed, a case, what it is for and a count.
+#[derive(Clone, Copy)]
+struct Draws {
+    seed: usize,
+    case: usize,
 }
 
-// A number below n.
-fn below(x: usize, n: usize) -> usize
-    requires { 1 ≤ n }
-    ensures { result < n }
-{
-    x % n
+impl Draws {
+    fn draw(self, what: usize, n: usize) -> usize {
+        let x = self.case % MODULUS * 48_271
+            + what % MODULUS * 104_729
+            + n % MODULUS * 69_621
+            + self.seed % MODULUS;
+        mixed(mixed(x))
+    }
+
+    fn byte(self, what: usize, n: usize) -> u8 {
+        (self.draw(what, n) % 256) as u8
+    }
 }
 
 // ---- a line
 
-// How many packets are written: every sixteenth line is a long one, of up to 300, so that a number comes again.
-fn packets_of(s: usize) -> usize
-    ensures { (1 ≤ result) × (result ≤ 300) }
-{
-    if s % 16 == 0 {
-        200 + draw(s, 1, 0) % 101
-    } else {
-        1 + draw(s, 1, 0) % 24
-    }
+#[derive(Clone, Copy)]
+struct Line<'a> {
+    draws: Draws,
+    // The bytes of all packets.
+    pool: &'a [u8],
+    // How many packets are written.
+    packets: usize,
+    // How many chunks come in their places.
+    in_place: usize,
 }
 
-// The number that both ends start with.
-fn number_at(s: usize) -> u8 {
-    (draw(s, 2, 0) % 256) as u8
-}
-
-// The reader's limit: no packet is longer.
-fn limit_of(s: usize) -> usize {
-    60 + draw(s, 3, 0) % 5
-}
-
-fn len_of(s: usize, j: usize) -> usize
-    ensures { result ≤ 60 }
-{
-    draw(s, 4, j) % 61
-}
-
-// Where packet j stands in the pool of bytes.
-fn place_of(s: usize, j: usize) -> usize {
-    draw(s, 5, j) % 960
-}
-
-// How many chunks come in their places: few in half of the long lines, so that one from far behind can come next.
-fn in_place(s: usize) -> usize
-    ensures { result ≤ 300 }
-{
-    if s % 32 == 0 {
-        return draw(s, 6, 0) % 40;
-    }
-    below(draw(s, 6, 0), packets_of(s) + 1)
-}
-
-// A chunk for the place c: that itself, the one behind it or before it, one that has nearly its number, or any.
-fn wished(s: usize, c: usize) -> usize
-    requires { c ≤ 300 }
-    ensures { result ≤ 555 }
-{
-    match draw(s, 7, 0) % 6 {
-        0 => c,
-        1 => c + 1,
-        2 => {
-            if c == 0 {
-                return 0;
-            }
-            c - 1
+impl<'a> Line<'a> {
+    // Every sixteenth line is a long one, of up to 300 packets, so that a number comes again. In half of those few chunks come in their
+    // places, so that one from far behind can come next.
+    fn new(pool: &'a [u8], case: usize) -> Line<'a> {
+        let draws = Draws { seed: SEED, case };
+        let packets = match case % 16 {
+            0 => 200 + draws.draw(1, 0) % 101,
+            _ => 1 + draws.draw(1, 0) % 24,
+        };
+        let in_place = match case % 32 {
+            0 => draws.draw(6, 0) % 40,
+            _ => draws.draw(6, 0) % (packets + 1),
+        };
+        Line {
+            draws,
+            pool,
+            packets,
+            in_place,
         }
-        3 => c + 255,
-        4 => {
-            if c < 255 {
-                return c;
-            }
-            c - 255
+    }
+
+    // The number that both ends start with.
+    fn number(&self) -> u8 {
+        self.draws.byte(2, 0)
+    }
+
+    // The reader's limit: no packet is longer.
+    fn limit(&self) -> usize {
+        60 + self.draws.draw(3, 0) % 5
+    }
+
+    fn packet(&self, j: usize) -> &[u8] {
+        let place = self.draws.draw(5, j) % 960;
+        part(self.pool, place, self.draws.draw(4, j) % 61)
+    }
+
+    // Any of the packets: there is always one.
+    fn any(&self, what: usize, n: usize) -> usize {
+        self.draws.draw(what, n) % self.packets.max(1)
+    }
+
+    // The chunk that comes out of its place, behind those that come in theirs: the next one itself, the one behind it or before it, one
+    // that has nearly its number, or any. None where that is the next one, was not written, or is 256 places off or more.
+    fn misplaced(&self) -> Option<usize> {
+        let next = self.in_place;
+        let chunk = match self.draws.draw(7, 0) % 6 {
+            0 => next,
+            1 => next.saturating_add(1),
+            2 => next.saturating_sub(1),
+            3 => next.saturating_add(255),
+            4 => next.checked_sub(255).unwrap_or(next),
+            _ => self.any(8, 0),
+        };
+        let off = chunk != next && chunk < self.packets && chunk.abs_diff(next) < 256;
+        off.then_some(chunk)
+    }
+
+    // How long piece k is: pieces are up to 1 to 100 bytes long, and may be empty.
+    fn piece_len(&self, k: usize) -> usize {
+        self.draws.draw(12, k) % (2 + self.draws.draw(11, 0) % 100)
+    }
+
+    // All packets, each as one chunk. The writer's limit is its own.
+    fn write(&self, alloc: Global) -> Result<Written, AllocError> {
+        let mut codec = idle(1000, self.number());
+        let mut chunks = Vec::new(alloc);
+        for j in 0..self.packets {
+            let mut room = [0u8; CHUNK_ROOM];
+            let sent = chunk::packet_to_chunks(&mut room, codec, self.packet(j));
+            let len = sent.put.unwrap_or(0);
+            codec = sent.next;
+            chunks.push(Vec::from_slice(alloc, part(&room, 0, len))?)?;
         }
-        _ => below(draw(s, 8, 0), packets_of(s)),
+        Ok(Written { codec, chunks })
+    }
+
+    // The chunks that come in their places, a misplaced one, and behind it some more, whatever they are.
+    fn arrive(&self, alloc: Global, written: &Written) -> Result<Arrived, AllocError> {
+        let mut bytes = Vec::new(alloc);
+        for j in 0..self.in_place {
+            bytes.extend_from_slice(written.chunk(j))?;
+        }
+        let Some(misplaced) = self.misplaced() else {
+            return Ok(Arrived { bytes, due: None });
+        };
+        bytes.extend_from_slice(written.chunk(misplaced))?;
+        let due = Some(bytes.len());
+        for n in 0..self.draws.draw(9, 0) % 8 {
+            let j = self.any(10, self.in_place.saturating_add(1 + n));
+            bytes.extend_from_slice(written.chunk(j))?;
+        }
+        Ok(Arrived { bytes, due })
     }
 }
 
-// The chunk that comes out of its place then; c itself where none does. It was written, and is fewer than 256 places off.
-fn misplaced(s: usize, c: usize) -> usize
-    requires { c ≤ 300 }
-    ensures { result ≤ 300 }
-{
-    let x = wished(s, c);
-    if packets_of(s) <= x {
-        return c;
-    }
-    if x + 256 <= c {
-        return c;
-    }
-    if c + 256 <= x {
-        return c;
-    }
-    x
-}
-
-// How many chunks arrive: behind the misplaced one some more, whatever they are.
-fn arrivals_of(s: usize, c: usize) -> usize
-    requires { c ≤ 300 }
-    ensures { result ≤ 308 }
-{
-    if misplaced(s, c) == c {
-        return c;
-    }
-    c + 1 + draw(s, 9, 0) % 8
-}
-
-// Which chunk arrival n is.
-fn arrival(s: usize, c: usize, n: usize) -> usize
-    requires { c ≤ 300 }
-    ensures { result ≤ 300 }
-{
-    if n < c {
-        return n;
-    }
-    if n == c {
-        return misplaced(s, c);
-    }
-    below(draw(s, 10, n), packets_of(s))
-}
-
-// ---- the bytes
-
+// A codec that has read and written nothing.
 fn idle(limit: usize, number: u8) -> PlainPacketCodec {
-    PlainPacketCodec {
-        limit,
-        taken: 0,
-        len: 0,
-        number,
-        waiting: false,
-        ahead: 0,
-        closed: false,
-    }
+    let codec = chunk::opening(limit).unwrap_or_else(|shut| shut.state);
+    PlainPacketCodec { number, ..codec }
 }
 
-#[derive(Clone, Copy)]
-struct Writer {
+// The writer behind its last packet, and what it made of each; nothing where it refused one.
+#[derive(Drop)]
+struct Written {
     codec: PlainPacketCodec,
-    right: bool,
+    chunks: Vec<Vec<u8>>,
 }
 
-// Packet j, written into its slot.
-fn write_one(out: &mut [u8], one: &mut [u8], pool: &[u8], s: usize, j: usize, w: Writer) -> Writer
-    requires { j < 300 }
-{
-    let n = len_of(s, j);
-    let sent = chunk::packet_to_chunks(one, w.codec, part(pool, place_of(s, j), n));
-    let put = sent.put;
-    let next = sent.next;
-    let long = match put {
-        Put::Next(k) => k,
-        Put::Refused(_) => 0,
-    };
-    wire::put_slice(out, SLOT * j, part(one, 0, long));
-    Writer {
-        codec: next,
-        right: w.right && long == n + 4,
+impl Written {
+    fn chunk(&self, j: usize) -> &[u8] {
+        match self.chunks.get(j) {
+            Some(chunk) => chunk,
+            None => &[],
+        }
+    }
+
+    // Whether each chunk is as long as its packet and a header.
+    fn is_right(&self, line: &Line<'_>) -> bool {
+        let mut chunks = self.chunks.iter().enumerate();
+        chunks.all(|(j, chunk)| chunk.len() == line.packet(j).len() + 4)
     }
 }
 
-// All packets of a line. The writer's limit is its own.
-fn write_packets(out: &mut [u8], one: &mut [u8], pool: &[u8], s: usize) -> Writer {
-    let mut w = Writer {
-        codec: idle(1000, number_at(s)),
-        right: true,
-    };
-    let n = packets_of(s);
-    let mut j = 0;
-    while j < n {
-        w = write_one(out, one, pool, s, j, w);
-        j += 1;
-    }
-    w
-}
-
-// What arrives: how many bytes, and how many of them end with the misplaced chunk (more than there are, where none is).
-#[derive(Clone, Copy)]
+// What comes to the reader's end, and how many bytes of it end with the misplaced chunk, where there is one.
+#[derive(Drop)]
 struct Arrived {
-    size: usize,
-    due: usize,
-}
-
-fn arrive_one(line: &mut [u8], out: &[u8], s: usize, c: usize, n: usize, a: Arrived) -> Arrived
-    requires { c ≤ 300 }
-{
-    let j = arrival(s, c, n);
-    let long = 4 + len_of(s, j);
-    wire::put_slice(line, a.size, part(out, SLOT * j, long));
-    let size = std::num::wrapping_add_usize(a.size, long);
-    let due = if n == c { size } else { a.due };
-    Arrived { size, due }
-}
-
-fn arrive(line: &mut [u8], out: &[u8], s: usize, c: usize) -> Arrived
-    requires { c ≤ 300 }
-{
-    let mut a = Arrived {
-        size: 0,
-        due: 1_000_000,
-    };
-    let many = arrivals_of(s, c);
-    let mut n = 0;
-    while n < many {
-        a = arrive_one(line, out, s, c, n, a);
-        n += 1;
-    }
-    a
+    bytes: Vec<u8>,
+    due: Option<usize>,
 }
 
 // ---- the host
 
-// The bytes before `at` are used; `go` while the reader has packets; `right` while all is as it should be.
-#[derive(Clone, Copy)]
-struct Host {
+// The bytes before `at` are used; `right` while all is as it should be.
+#[derive(Drop)]
+struct Host<'a> {
+    line: Line<'a>,
     codec: PlainPacketCodec,
+    buffer: [u8; CHUNK_ROOM],
     at: usize,
     handed: usize,
     refusals: usize,
-    go: bool,
     right: bool,
 }
 
-// A refusal is 3 the first time, then 7.
-fn refuse(h: Host, number: usize) -> Host {
-    let expected = if h.refusals == 0 { 3 } else { 7 };
-    Host {
-        codec: h.codec,
-        at: h.at,
-        handed: h.handed,
-        refusals: std::num::wrapping_add_usize(h.refusals, 1),
-        go: false,
-        right: h.right && number == expected,
-    }
-}
-
-// A packet is the next one that was written, and comes before any refusal.
-fn hand(h: Host, packet: &[u8], pool: &[u8], s: usize) -> Host {
-    let expected = part(pool, place_of(s, h.handed), len_of(s, h.handed));
-    Host {
-        codec: h.codec,
-        at: h.at,
-        handed: std::num::wrapping_add_usize(h.handed, 1),
-        refusals: h.refusals,
-        go: true,
-        right: h.right && h.refusals == 0 && check::same(packet, expected),
-    }
-}
-
-fn stopped(h: Host) -> Host {
-    let codec = h.codec;
-    Host {
-        codec,
-        at: h.at,
-        handed: h.handed,
-        refusals: h.refusals,
-        go: false,
-        right: h.right,
-    }
-}
-
-// One call, on the unread bytes.
-fn call(dst: &mut [u8], unread: &[u8], pool: &[u8], s: usize, h: Host) -> Host {
-    let got = chunk::decode(dst, h.codec, unread);
-    let answer = got.answer;
-    let next = got.next;
-    let then = Host {
-        codec: next,
-        at: std::num::wrapping_add_usize(h.at, got.used),
-        handed: h.handed,
-        refusals: h.refusals,
-        go: true,
-        right: h.right,
-    };
-    match answer {
-        Answer::NeedMore => stopped(then),
-        Answer::Packet(n) => hand(then, part(dst, 0, n), pool, s),
-        Answer::Refused(why) => refuse(then, number_of(why) as usize),
-    }
-}
-
-// Calls until it has no packet left; so many there never are.
-fn drain(dst: &mut [u8], line: &[u8], pool: &[u8], s: usize, got: usize, first: Host) -> Host {
-    let mut h = first;
-    let mut k: usize = 0;
-    while k < 400 {
-        let unread = part(line, h.at, std::num::wrapping_sub_usize(got, h.at));
-        h = call(dst, unread, pool, s, h);
-        if !h.go {
-            return h;
+impl<'a> Host<'a> {
+    fn new(line: Line<'a>) -> Host<'a> {
+        Host {
+            line,
+            codec: idle(line.limit(), line.number()),
+            buffer: [0; CHUNK_ROOM],
+            at: 0,
+            handed: 0,
+            refusals: 0,
+            right: true,
         }
-        k += 1;
     }
-    h
-}
 
-// How many bytes have come with piece k: pieces are up to 1 to 100 bytes long, and may be empty.
-fn more(s: usize, k: usize, got: usize, size: usize) -> usize {
-    let n = draw(s, 12, k) % (2 + draw(s, 11, 0) % 100);
-    if size <= got {
-        return size;
-    }
-    if size - got <= n {
-        return size;
-    }
-    got + n
-}
-
-// One piece. A misplaced chunk is refused when it is complete, not before and not later.
-fn take_piece(
-    dst: &mut [u8],
-    line: &[u8],
-    pool: &[u8],
-    s: usize,
-    got: usize,
-    due: usize,
-    h: Host,
-) -> Host {
-    let then = drain(dst, line, pool, s, got, h);
-    let refused = 0 < then.refusals;
-    Host {
-        codec: then.codec,
-        at: then.at,
-        handed: then.handed,
-        refusals: then.refusals,
-        go: then.go,
-        right: then.right && refused == (due <= got),
-    }
-}
-
-// All pieces, and one that is empty at the end. So many there never are: that would differ.
-fn serve(dst: &mut [u8], line: &[u8], pool: &[u8], s: usize, a: Arrived) -> Host {
-    let mut h = Host {
-        codec: idle(limit_of(s), number_at(s)),
-        at: 0,
-        handed: 0,
-        refusals: 0,
-        go: true,
-        right: true,
-    };
-    let mut got = 0;
-    let mut k = 0;
-    while k < 60_000 {
-        if got == a.size {
-            return take_piece(dst, line, pool, s, got, a.due, h);
+    // One call, on the unread bytes. Answers whether it handed out a packet: there may be more then.
+    fn call(&mut self, unread: &[u8]) -> bool {
+        let got = chunk::decode(&mut self.buffer, self.codec, unread);
+        self.codec = got.next;
+        self.at = self.at.saturating_add(got.used);
+        match got.answer {
+            Ok(None) => false,
+            Ok(Some(n)) => {
+                self.hand(n);
+                true
+            }
+            Err(why) => {
+                self.refuse(why);
+                false
+            }
         }
-        got = more(s, k, got, a.size);
-        h = take_piece(dst, line, pool, s, got, a.due, h);
-        k += 1;
     }
-    h
+
+    // A packet is the next one that was written, and comes before any refusal.
+    fn hand(&mut self, n: usize) {
+        let same = part(&self.buffer, 0, n) == self.line.packet(self.handed);
+        self.right &= same && self.refusals == 0;
+        self.handed = self.handed.saturating_add(1);
+    }
+
+    // The first refusal says that the chunk is out of sync, each later one that the codec is closed.
+    fn refuse(&mut self, why: Refusal) {
+        let expected = match self.refusals {
+            0 => Refusal::OutOfSync,
+            _ => Refusal::Closed,
+        };
+        self.right &= why == expected;
+        self.refusals = self.refusals.saturating_add(1);
+    }
+
+    // Calls on the bytes that have come, until there is no packet left; so many there never are.
+    fn drain(&mut self, come: &[u8]) {
+        for _ in 0..400 {
+            if !self.call(come.get(self.at..).unwrap_or_default()) {
+                return;
+            }
+        }
+    }
+
+    // All pieces, and one that is empty at the end; so many there never are. A misplaced chunk is refused when it is complete, not before
+    // and not later.
+    fn serve(&mut self, arrived: &Arrived) {
+        let size = arrived.bytes.len();
+        let mut got = 0;
+        for k in 0..60_000 {
+            let ended = got == size;
+            got = size.min(got.saturating_add(self.line.piece_len(k)));
+            self.drain(part(&arrived.bytes, 0, got));
+            let is_due = arrived.due.is_some_and(|due| due <= got);
+            self.right &= is_due == (0 < self.refusals);
+            if ended {
+                return;
+            }
+        }
+    }
+
+    // Exactly the packets before the misplaced chunk; or all that came, every byte used, and a number that is behind the writer's by the
+    // chunks missing at the end.
+    fn is_right(&self, written: &Written, arrived: &Arrived) -> bool {
+        if !written.is_right(&self.line) || !self.right || self.handed != self.line.in_place {
+            return false;
+        }
+        if arrived.due.is_some() {
+            return 0 < self.refusals;
+        }
+        let missing = self.line.packets.saturating_sub(self.line.in_place);
+        let behind = written.codec.number.wrapping_sub(self.codec.number);
+        self.at == arrived.bytes.len() && usize::from(behind) == missing % 256
+    }
 }
 
 // ---- what all lines come to
 
-#[derive(Clone, Copy)]
+#[derive(Default, Drop)]
 struct Counts {
-    written: usize,
-    handed: usize,
-    misplaced: usize,
-    refusals: usize,
-    differences: usize,
+    written: Saturating<usize>,
+    handed: Saturating<usize>,
+    misplaced: Saturating<usize>,
+    refusals: Saturating<usize>,
+    differences: Saturating<usize>,
 }
 
-fn plus(a: usize, b: usize) -> usize {
-    std::num::wrapping_add_usize(a, b)
-}
-
-// The reader's number is behind the writer's by the chunks missing at the end.
-fn is_behind(reader: u8, writer: u8, missing: usize) -> bool {
-    plus(reader as usize, missing) % 256 == writer as usize
-}
-
-// Exactly the packets before the misplaced chunk; or all that came, every byte used, and the number.
-fn is_right(s: usize, c: usize, w: Writer, a: Arrived, h: Host) -> bool {
-    if !w.right {
-        return false;
-    }
-    if !h.right {
-        return false;
-    }
-    if h.handed != c {
-        return false;
-    }
-    if a.due <= a.size {
-        return 0 < h.refusals;
-    }
-    if h.at != a.size {
-        return false;
-    }
-    is_behind(
-        h.codec.number,
-        w.codec.number,
-        std::num::wrapping_sub_usize(packets_of(s), c),
-    )
-}
-
-fn say(what: &[u8], n: usize) {
-    io::write_all(STDOUT_FILENO, what);
-    io::print_decimal(STDOUT_FILENO, n as u64);
-    io::write_all(STDOUT_FILENO, b"\n");
-}
-
-// 1 for a line that differs, and says which.
-fn differs(ok: bool, s: usize) -> usize {
-    if ok {
-        return 0;
-    }
-    say(b"differs: line ", s);
-    1
-}
-
-// The counts with those of one line.
-fn with_line(s: usize, c: usize, w: Writer, a: Arrived, h: Host, t: Counts) -> Counts {
-    let off = if a.due <= a.size { 1 } else { 0 };
-    Counts {
-        written: plus(t.written, packets_of(s)),
-        handed: plus(t.handed, h.handed),
-        misplaced: plus(t.misplaced, off),
-        refusals: plus(t.refusals, h.refusals),
-        differences: plus(t.differences, differs(is_right(s, c, w, a, h), s)),
+impl Counts {
+    fn add_line(&mut self, rt: &(impl Print + AllocGlobal), line: Line<'_>) -> io::Result<()> {
+        let written = line.write(rt.alloc())?;
+        let arrived = line.arrive(rt.alloc(), &written)?;
+        let mut host = Host::new(line);
+        host.serve(&arrived);
+        self.written += line.packets;
+        self.handed += host.handed;
+        self.misplaced += usize::from(arrived.due.is_some());
+        self.refusals += host.refusals;
+        if host.is_right(&written, &arrived) {
+            return Ok(());
+        }
+        self.differences += 1;
+        println!(rt; "differs: line {}", line.draws.case)
     }
 }
 
-fn run_line(
-    out: &mut [u8],
-    line: &mut [u8],
-    dst: &mut [u8],
-    one: &mut [u8],
-    pool: &[u8],
-    s: usize,
-    t: Counts,
-) -> Counts {
-    let c = in_place(s);
-    let w = write_packets(out, one, pool, s);
-    let a = arrive(line, out, s, c);
-    let h = serve(dst, line, pool, s, a);
-    with_line(s, c, w, a, h, t)
-}
-
-fn run_lines(
-    out: &mut [u8],
-    line: &mut [u8],
-    dst: &mut [u8],
-    one: &mut [u8],
-    pool: &[u8],
-) -> Counts {
-    let mut t = Counts {
-        written: 0,
-        handed: 0,
-        misplaced: 0,
-        refusals: 0,
-        differences: 0,
+fn main(rt: HostRuntime) -> io::Result<()> {
+    let draws = Draws {
+        seed: SEED,
+        case: 0,
     };
-    let mut s = 0;
-    while s < LINES {
-        t = run_line(out, line, dst, one, pool, s, t);
-        s += 1;
+    let pool: Vec<u8> = (0..1024).map(|i| draws.byte(13, i)).collect(rt.alloc())?;
+    let mut counts = Counts::default();
+    for case in 0..LINES {
+        counts.add_line(&rt, Line::new(&pool, case))?;
     }
-    t
-}
-
-// The bytes of all packets.
-fn fill(pool: &mut [u8]) {
-    let mut i = 0;
-    while i < pool.len() {
-        pool[i] = (draw(0, 13, i) % 256) as u8;
-        i += 1;
-    }
-}
-
-fn main() {
-    let mut pool = [0u8; 1024];
-    let mut out = [0u8; 20480];
-    let mut line = [0u8; 20480];
-    let mut dst = [0u8; 64];
-    let mut one = [0u8; 64];
-    fill(&mut pool);
-    let t = run_lines(&mut out, &mut line, &mut dst, &mut one, &pool);
-    say(b"lines ", LINES);
-    say(b"packets written ", t.written);
-    say(b"packets handed out ", t.handed);
-    say(b"lines with a chunk out of its place ", t.misplaced);
-    say(b"refusals ", t.refusals);
-    say(b"differences ", t.differences);
+    println!(rt; "lines {LINES}")?;
+    println!(rt; "packets written {}", counts.written)?;
+    println!(rt; "packets handed out {}", counts.handed)?;
+    println!(rt; "lines with a chunk out of its place {}", counts.misplaced)?;
+    println!(rt; "refusals {}", counts.refusals)?;
+    println!(rt; "differences {}", counts.differences)
 }

@@ -1,12 +1,11 @@
 -- The checker, as one walk over the input: what the bytes mean, or the place of the first byte that no literal could continue with, or the
 -- end. Grammar says what a literal is, and MemberLaws that this says yes for those alone.
-use Rattle.std.specs.Prelude.{ℕ, ◌+◌, ◌≡◌, Bool, cond, false, List, [], ◌∷◌, ◌++◌, length, eqb, leb}
+use Rattle.literal.specs.declared.Bad.{Bad}
+use Rattle.std.specs.Prelude.{ℕ, ◌+◌, ◌≡◌, Bool, cond, false, List, [], ◌∷◌, ◌++◌, length, eqb, leb, Result, Ok, Err}
 use Rattle.refusal.specs.Number.{number}
 use Rattle.wire.specs.Room.{patch}
 use Rattle.escape.specs.Quote.{quote, backslash}
 use Rattle.escape.specs.Meaning.{escape_means}
-use Rattle.literal.specs.declared.Answer.{Answer}
-use Rattle.literal.specs.declared.Answer.TheVariants.{Means, Refused}
 
 pub data Verdict : Type 0 where
   means : List ℕ → Verdict
@@ -38,9 +37,9 @@ pub data Judged : Type 0 where
   fine : ℕ → Judged
   refused : (number place : ℕ) → Judged
 
-abbrev pub said : Answer → Judged
-said (Means n) = fine n
-said (Refused r place) = refused (number r) place
+abbrev pub said : Result ℕ Bad → Judged
+said (Ok n) = fine n
+said (Err b) = refused (number b.why) b.place
 
 -- "15, bad literal, with the place"
 abbrev pub counted : Verdict → Judged
@@ -58,6 +57,6 @@ leaves (means bs) d = cond (leb (length bs) (length d)) (patch d 0 bs) d
 leaves (bad place) d = d
 
 -- an entry's answer, and what it leaves in the buffer
-pub record Meant (v : Verdict) (d : List ℕ) (r : Answer) (d' : List ℕ) : Type 0 where
+pub record Meant (v : Verdict) (d : List ℕ) (r : Result ℕ Bad) (d' : List ℕ) : Type 0 where
   pub tells : said r ≡ answered v d
   pub left : d' ≡ leaves v d

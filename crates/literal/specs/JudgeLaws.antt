@@ -1,5 +1,5 @@
 -- The judge's walk: what it answers from a place on, and that each turn leads to the same answer.
-use Rattle.std.specs.Prelude.{ℕ, ◌+◌, ◌-◌, ◌≤◌, ◌<◌, ◌≡◌, refl, Bool, false, List, [], ◌∷◌, length, take, drop, get_or}
+use Rattle.std.specs.Prelude.{ℕ, ◌+◌, ◌-◌, ◌≤◌, ◌<◌, ◌≡◌, refl, Bool, false, List, [], ◌∷◌, length, take, drop, get_or, Result}
 use Rattle.std.proofs.Common.{arith, zero-add, add-zero, add_assoc, sym, ap, ◌∙◌, length-append, drop_of_length-le, drop-drop, length-take-le, ne_eqb}
 use Rattle.escape.specs.Quote.{quote, backslash}
 use Rattle.escape.specs.QuoteLaws.{first_of}
@@ -8,8 +8,10 @@ use Rattle.literal.specs.Grammar.{Item, doubled, escape}
 use Rattle.literal.specs.Checked.{Verdict, means, bad, also, inside, checked, Judged, fine, refused, counted, said}
 use Rattle.literal.specs.CheckedLaws.{item_reads}
 use Rattle.literal.specs.RunLaws.{clean_run, run_le, run_reads, one_left, two_left}
-use Rattle.literal.specs.declared.Turn.{Turn}
-use Rattle.literal.specs.declared.Turn.TheVariants.{On, Over}
+use Rattle.literal.specs.declared.Bad.{Bad}
+use Rattle.literal.specs.declared.Spot.{Spot}
+use Rattle.std.specs.declared.ops.ControlFlow.{ControlFlow}
+use Rattle.std.specs.declared.ops.ControlFlow.TheVariants.{Continue, Break}
 
 -- from a place on, with n bytes meant up to there
 
@@ -20,18 +22,21 @@ ahead at n (bad place) = refused 15 (at + place)
 abbrev pub leads : Bool → List ℕ → (at n : ℕ) → Judged
 leads m s at n = ahead at n (inside m (drop at s))
 
+abbrev pub Turn : Type 0
+Turn = ControlFlow (Result ℕ Bad) Spot
+
 abbrev pub turn_leads : Bool → List ℕ → Turn → Judged
-turn_leads m s (On at n) = leads m s at n
-turn_leads m s (Over a) = said a
+turn_leads m s (Continue next) = leads m s next.at next.count
+turn_leads m s (Break a) = said a
 
 abbrev pub turn_fits : List ℕ → ℕ → Turn → Type 0
-turn_fits s at (On next n) = (at < next) × (next ≤ length s) × (n ≤ next)
-turn_fits s at (Over a) = 0 ≤ 0
+turn_fits s at (Continue next) = (at < next.at) × (next.at ≤ length s) × (next.count ≤ next.at)
+turn_fits s at (Break a) = 0 ≤ 0
 
 -- a turn leads to the same answer; and it goes further, with room to count
-pub record Turned (m : Bool) (s : List ℕ) (at n : ℕ) (r : Turn) : Type 0 where
-  pub same : turn_leads m s r ≡ leads m s at n
-  pub fits : turn_fits s at r
+pub record Turned (m : Bool) (s : List ℕ) (spot : Spot) (r : Turn) : Type 0 where
+  pub same : turn_leads m s r ≡ leads m s spot.at spot.count
+  pub fits : turn_fits s spot.at r
 
 ahead-also : (at n k : ℕ) (bs : List ℕ) (v : Verdict) → ahead at n (also k bs v) ≡ ahead (at + k) (n + length bs) v
 ahead-also at n k bs (means cs) = ap fine (omega (arith, length-append bs cs))
@@ -68,13 +73,15 @@ run_leads m s at n h run e =
     (sym (ap (ahead at n) (run_reads m (drop at s)) ∙ ahead-also at n k (take k (drop at s)) (inside m (drop k (drop at s)))))
 
 -- a turn from where a run ends is one from the place where it began
-pub run_turned : (m : Bool) (s : List ℕ) (at : ℕ) → at ≤ length s → (run : ℕ) → run ≡ at + clean_run (first_of m) (drop at s) → (n : ℕ) (r : Turn)
-    → Turned m s run (n + (run - at)) r → Turned m s at n r
-run_turned m s at h run e n r t = record { same = t.same ∙ run_leads m s at n h run e; fits = by r t.fits }
+pub run_turned : (m : Bool) (s : List ℕ) (spot : Spot) → spot.at ≤ length s → (run : ℕ) → run ≡ clean_run (first_of m) (drop spot.at s) → (r : Turn)
+    → Turned m s (record { at = spot.at + run; count = spot.count + run }) r → Turned m s spot r
+run_turned m s spot h run e r t =
+    let k : spot.at + run - spot.at ≡ run = omega arith in
+    record { same = t.same ∙ rw k at (run_leads m s spot.at spot.count h (spot.at + run) (ap (λ (n : ℕ). spot.at + n) e)); fits = by r t.fits }
   where
-    by : (r : Turn) → turn_fits s run r → turn_fits s at r
-    by (On next k) f = (omega arith, f.1, f.2)
-    by (Over a) f = f
+    by : (r : Turn) → turn_fits s (spot.at + run) r → turn_fits s spot.at r
+    by (Continue next) f = (omega arith, f.1, f.2)
+    by (Break a) f = f
 
 -- nothing is left: the end
 pub leads_end : (m : Bool) (s : List ℕ) (at n : ℕ) → length s ≤ at → leads m s at n ≡ refused 15 at

@@ -39,11 +39,11 @@ pub passed_on : {d d' d'' zs ys xs : List ℕ} {n n' n'' : ℕ} → Passed d n z
 passed_on p q = record { room = q.room ∙ p.room; left = q.left ∙ p.left }
 
 -- what a turn of the writer leaves
-pub record Written (m : Bool) (s d : List ℕ) (next at : ℕ) (d' : List ℕ) (r : Spot) : Type 0 where
-  pub further : at < r.at
+pub record Written (m : Bool) (s d : List ℕ) (spot : Spot) (d' : List ℕ) (r : Spot) : Type 0 where
+  pub further : spot.at < r.at
   pub within : r.at < length s
   pub sound : Sound m s r.at
-  pub passed : Passed d next (rest m s at) d' r.next (rest m s r.at)
+  pub passed : Passed d spot.count (rest m s spot.at) d' r.count (rest m s r.at)
 
 also_sound : (k : ℕ) (bs : List ℕ) (v : Verdict) (cs : List ℕ) → also k bs v ≡ means cs → (v ≡ means (meaning_of v)) × (cs ≡ bs ++ meaning_of v)
 also_sound k bs (means ds) cs e = (refl, cc e)

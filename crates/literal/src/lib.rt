@@ -17,21 +17,25 @@ ghost use Rattle.literal.specs.JudgeLaws.{Turned};
 ghost use Rattle.literal.specs.WriteLaws.{meaning_of, rest, Sound, Written};
 
 use refusal::Refusal;
+use std::ops::ControlFlow::{self, Break, Continue};
 use wire::inner;
 
-// How many bytes a literal means; or why there are none, and at which place of the input.
-#[derive(Clone, Copy)]
-pub enum Answer {
-    Means(usize),
-    Refused(Refusal, usize),
+// Why bytes are refused, and at which place of the input.
+#[derive(Clone, Copy, PartialEq, Eq)]
+pub struct Bad {
+    pub why: Refusal,
+    pub place: usize,
 }
 
-// What the judge finds from a place on: the place behind an item, with the number of bytes meant up to there; or the end of the walk.
+// A place of the input, and how many bytes are meant up to there: at that place of the buffer the meaning goes on.
 #[derive(Clone, Copy)]
-enum Turn {
-    On(usize, usize),
-    Over(Answer),
+struct Spot {
+    at: usize,
+    count: usize,
 }
+
+// What the judge finds from a spot on: the one behind an item, or the end of the walk.
+type Turn = ControlFlow<Result<usize, Bad>, Spot>;
 
 // ---- bytes and escapes
 
@@ -42,39 +46,38 @@ fn other_of(no_backslash_escape: bool) -> u8
     if no_backslash_escape { 0x27 } else { 0x5C }
 }
 
+#[tactic(auto, unfolding(crate::specs::RunLaws::clean))]
 fn is_clean(b: u8, other: u8) -> bool
     ensures { result ≡ clean other b }
 {
-    if b == 0x27 { false } else { b != other }
+    b != 0x27 && b != other
 }
 
-// The place behind the bytes from a place on that stand for themselves.
-fn run_end(input: &[u8], at: usize, other: u8) -> usize
+// How many bytes from a place on stand for themselves, before the first that does not.
+fn run_len(input: &[u8], at: usize, no_backslash_escape: bool) -> usize
     requires { at ≤ length input.now }
-    ensures { result ≡ at + clean_run other (drop at input.now) }
+    ensures { (result ≡ clean_run (first_of no_backslash_escape) (drop at input.now)) × (at + result ≤ length input.now) }
 {
-    let mut i = at;
-    while i < input.len() {
-        if !is_clean(input[i], other) {
-            return i;
-        }
-        i += 1;
-    }
-    i
+    let rest = &input[at..];
+    let other = other_of(no_backslash_escape);
+    rest.iter()
+        .position(|b| !is_clean(*b, other))
+        .unwrap_or(rest.len())
 }
 
 // How many bytes a backslash and this byte mean: two where the backslash stays.
+#[tactic(auto, using(crate::specs::RunLaws::escape_one), unfolding(escape::specs::Meaning::escape_means))]
 fn escape_len(c: u8) -> usize
     ensures { result ≡ length (escape_means c) }
 {
     match c {
-        0x25 => 2,
-        0x5F => 2,
+        0x25 | 0x5F => 2,
         _ => 1,
     }
 }
 
 // The byte that a backslash and this byte mean, where it is one.
+#[tactic(auto, unfolding(crate::specs::RunLaws::escape_byte))]
 fn escape_byte(c: u8) -> u8
     ensures { result ≡ escape_byte c }
 {
@@ -91,93 +94,93 @@ fn escape_byte(c: u8) -> u8
 
 // ---- the judge
 
-fn bad(place: usize) -> Answer
+fn no_literal(place: usize) -> Result<usize, Bad>
     ensures { said result ≡ refused 15 place }
 {
-    Answer::Refused(Refusal::BadLiteral, place)
+    Err(Bad {
+        why: Refusal::BadLiteral,
+        place,
+    })
 }
 
 // At a quote: as the last byte it closes the literal, before another it stands for one, and no other byte may follow it.
-fn at_quote(input: &[u8], at: usize, n: usize) -> Turn
-    requires { (at < length input.now) × (get_or input.now at 0 ≡ quote) × (n ≤ at) }
-    ensures { (m : Bool) → Turned m input.now at n result }
+#[tactic(auto, using(crate::proofs::Runs::turns))]
+fn at_quote(input: &[u8], spot: Spot) -> Turn
+    requires { (spot.at < length input.now) × (get_or input.now spot.at 0 ≡ quote) × (spot.count ≤ spot.at) }
+    ensures { (m : Bool) → Turned m input.now spot result }
 {
-    let next = at + 1;
-    if next == input.len() {
-        return Turn::Over(Answer::Means(n));
+    let behind = spot.at + 1;
+    if behind == input.len() {
+        return Break(Ok(spot.count));
     }
-    if input[next] == 0x27 {
-        Turn::On(next + 1, n + 1)
-    } else {
-        Turn::Over(bad(next))
+    if input[behind] != 0x27 {
+        return Break(no_literal(behind));
     }
+    Continue(Spot {
+        at: behind + 1,
+        count: spot.count + 1,
+    })
 }
 
 // At a backslash that escapes: any byte may follow it.
-fn at_backslash(input: &[u8], at: usize, n: usize) -> Turn
-    requires { (at < length input.now) × (get_or input.now at 0 ≡ backslash) × (n ≤ at) }
-    ensures { Turned false input.now at n result }
+#[tactic(auto, using(crate::proofs::Runs::turns))]
+fn at_backslash(input: &[u8], spot: Spot) -> Turn
+    requires { (spot.at < length input.now) × (get_or input.now spot.at 0 ≡ backslash) × (spot.count ≤ spot.at) }
+    ensures { Turned false input.now spot result }
 {
-    let next = at + 1;
+    let next = spot.at + 1;
     if next == input.len() {
-        return Turn::Over(bad(next));
+        return Break(no_literal(next));
     }
     let more = escape_len(input[next]);
-    Turn::On(next + 1, n + more)
+    Continue(Spot {
+        at: next + 1,
+        count: spot.count + more,
+    })
 }
 
 // A run of bytes that stand for themselves, and what follows it.
-fn judge_turn(input: &[u8], at: usize, n: usize, no_backslash_escape: bool) -> Turn
-    requires { (at ≤ length input.now) × (n ≤ at) }
-    ensures { Turned no_backslash_escape input.now at n result }
+#[tactic(auto, using(crate::proofs::Runs::turns))]
+fn judge_turn(input: &[u8], spot: Spot, no_backslash_escape: bool) -> Turn
+    requires { (spot.at ≤ length input.now) × (spot.count ≤ spot.at) }
+    ensures { Turned no_backslash_escape input.now spot result }
 {
-    let end = run_end(input, at, other_of(no_backslash_escape));
-    let count = n + (end - at);
-    if end == input.len() {
-        return Turn::Over(bad(end));
+    let run = run_len(input, spot.at, no_backslash_escape);
+    let end = Spot {
+        at: spot.at + run,
+        count: spot.count + run,
+    };
+    if end.at == input.len() {
+        return Break(no_literal(end.at));
     }
-    if input[end] == 0x27 {
-        at_quote(input, end, count)
+    if input[end.at] == 0x27 {
+        at_quote(input, end)
     } else {
-        at_backslash(input, end, count)
+        at_backslash(input, end)
     }
 }
 
 // How many bytes a literal means, in the server's mode NO_BACKSLASH_ESCAPES or the other.
-pub fn checked_len(input: &[u8], no_backslash_escape: bool) -> Answer
+#[tactic(auto, using(crate::proofs::Runs::turns))]
+pub fn checked_len(input: &[u8], no_backslash_escape: bool) -> Result<usize, Bad>
     ensures { said result ≡ counted (checked no_backslash_escape input.now) }
 {
-    if input.len() == 0 {
-        return bad(0);
+    if !input.starts_with(b"'") {
+        return no_literal(0);
     }
-    if input[0] != 0x27 {
-        return bad(0);
-    }
-    let mut at = 1;
-    let mut n = 0;
+    let mut spot = Spot { at: 1, count: 0 };
     loop {
-        match judge_turn(input, at, n, no_backslash_escape) {
-            Turn::On(next, more) => {
-                at = next;
-                n = more;
-            }
-            Turn::Over(answer) => {
-                return answer;
-            }
+        match judge_turn(input, spot, no_backslash_escape) {
+            Continue(next) => spot = next,
+            Break(answer) => return answer,
         }
     }
 }
 
 // ---- the writer, for what the judge has found to be a literal
 
-// A place of the input, and the place of the buffer where its meaning goes on.
-#[derive(Clone, Copy)]
-struct Spot {
-    at: usize,
-    next: usize,
-}
-
 // What a backslash and this byte mean, and the place behind it.
+#[tactic(auto, using(crate::specs::RunLaws::escape_two, crate::specs::RunLaws::escape_not_two, wire::specs::RoomLaws::patch_one, wire::specs::RoomLaws::patch_two))]
 fn put_escape(dst: &mut [u8], at: usize, c: u8) -> usize
     requires { at + length (escape_means c) ≤ length dst.old }
     ensures { (result ≡ at + length (escape_means c)) × (dst.new ≡ patch dst.old at (escape_means c)) }
@@ -194,56 +197,51 @@ fn put_escape(dst: &mut [u8], at: usize, c: u8) -> usize
 
 // A run of bytes that stand for themselves, in one go, and what follows it: the closing quote, where this stops; or two bytes, of which the
 // second says what they mean, since a doubled quote means what a quote behind a backslash does.
-fn put_turn(dst: &mut [u8], next: usize, input: &[u8], at: usize, no_backslash_escape: bool) -> Spot
-    requires { (at + 1 < length input.now) × Sound no_backslash_escape input.now at
-        × (next + length (rest no_backslash_escape input.now at) ≤ length dst.old) }
-    ensures { Written no_backslash_escape input.now dst.old next at dst.new result }
+fn put_turn(dst: &mut [u8], input: &[u8], spot: Spot, no_backslash_escape: bool) -> Spot
+    requires { (spot.at + 1 < length input.now) × Sound no_backslash_escape input.now spot.at
+        × (spot.count + length (rest no_backslash_escape input.now spot.at) ≤ length dst.old) }
+    ensures { Written no_backslash_escape input.now dst.old spot dst.new result }
 {
-    let end = run_end(input, at, other_of(no_backslash_escape));
-    inner::copy(dst, next, &input[at..end]);
-    let then = next + (end - at);
+    let run = run_len(input, spot.at, no_backslash_escape);
+    let end = spot.at + run;
+    inner::copy(dst, spot.count, &input[spot.at..end]);
+    let count = spot.count + run;
     let second = end + 1;
     if second == input.len() {
-        return Spot {
-            at: end,
-            next: then,
-        };
+        return Spot { at: end, count };
     }
-    let after = put_escape(dst, then, input[second]);
     Spot {
         at: second + 1,
-        next: after,
+        count: put_escape(dst, count, input[second]),
     }
 }
 
 // The bytes that a literal means, at the buffer's front.
+#[tactic(auto, using(crate::proofs::Runs::writes))]
 fn put_meaning(dst: &mut [u8], input: &[u8], no_backslash_escape: bool)
     requires { (checked no_backslash_escape input.now ≡ means (meaning_of (checked no_backslash_escape input.now)))
         × (length (meaning_of (checked no_backslash_escape input.now)) ≤ length dst.old) }
     ensures { dst.new ≡ patch dst.old 0 (meaning_of (checked no_backslash_escape input.now)) }
 {
     let last = input.len() - 1;
-    let mut at = 1;
-    let mut next = 0;
-    while at < last {
-        let spot = put_turn(dst, next, input, at, no_backslash_escape);
-        at = spot.at;
-        next = spot.next;
+    let mut spot = Spot { at: 1, count: 0 };
+    // A turn goes on by a run and an item, however long they are.
+    while spot.at < last {
+        spot = put_turn(dst, input, spot, no_backslash_escape);
     }
 }
 
 // How many bytes a literal means, and these bytes at the front of the buffer. What lies behind them there stays.
-pub fn checked(dst: &mut [u8], input: &[u8], no_backslash_escape: bool) -> Answer
+pub fn checked(dst: &mut [u8], input: &[u8], no_backslash_escape: bool) -> Result<usize, Bad>
     ensures { Meant (checked no_backslash_escape input.now) dst.old result dst.new }
 {
-    match checked_len(input, no_backslash_escape) {
-        Answer::Means(n) => {
-            if dst.len() < n {
-                return Answer::Refused(Refusal::NoRoom, 0);
-            }
-            put_meaning(dst, input, no_backslash_escape);
-            Answer::Means(n)
-        }
-        Answer::Refused(r, place) => Answer::Refused(r, place),
+    let n = checked_len(input, no_backslash_escape)?;
+    if dst.len() < n {
+        return Err(Bad {
+            why: Refusal::NoRoom,
+            place: 0,
+        });
     }
+    put_meaning(dst, input, no_backslash_escape);
+    Ok(n)
 }

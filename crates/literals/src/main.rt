@@ -3,301 +3,137 @@
 // a byte too short, and that a refused call changes nothing. Prints how many lines there were of each kind, and each difference.
 #![tactic(auto)]
 
-ghost use Rattle.std.specs.Prelude.{length, ◌≤◌};
+ghost use Rattle.std.specs.Prelude.{◌≤◌};
 
-use literal::Answer;
+use literal::Bad;
+use refusal::Refusal;
+use std::alloc::{AllocError, Global};
 use std::fs::File;
+use std::io;
+use std::io::Read;
 
-const STDOUT_FILENO: i32 = 1;
+// How many bytes of the list are read: what a longer file has behind them is not.
+const LIST: u64 = 65_536;
+
+// The longest buffer that is lent: no literal of the list means so many bytes.
+const ROOM: usize = 256;
 
 // What the buffer holds before each call.
 const MARK: u8 = 0xA5;
 
-// ---- the file
+// How many bytes a literal means; or why it is refused, and the place.
+type Answer = Result<usize, (Refusal, usize)>;
 
-fn byte(s: &[u8], at: usize) -> u8 {
-    if at < s.len() { s[at] } else { 0 }
+fn answer(checked: Result<usize, Bad>) -> Answer {
+    checked.map_err(|bad| (bad.why, bad.place))
 }
 
-// A sum of places, which are small in the file.
-fn plus(a: usize, b: usize) -> usize {
-    if a < 0x1000_0000 {
-        if b < 0x1000_0000 {
-            return a + b;
-        }
-    }
-    a
-}
-
-fn minus(a: usize, b: usize) -> usize {
-    if b < a { a - b } else { 0 }
-}
-
-// The first place of a byte from a place on, or the end.
-fn place_of(s: &[u8], at: usize, b: u8) -> usize
-    requires { at ≤ length s.now }
-    ensures { (at ≤ result) × (result ≤ length s.now) }
-{
-    let mut i = at;
-    while i < s.len() {
-        if s[i] == b {
-            return i;
-        }
-        i += 1;
-    }
-    i
-}
+// ---- a line
 
 fn digit(c: u8) -> u8
     ensures { result ≤ 15 }
 {
     match c {
-        0x30..=0x39 => c - 0x30,
-        0x61..=0x66 => c - 0x57,
+        b'0'..=b'9' => c - b'0',
+        b'a'..=b'f' => c - b'a' + 10,
         _ => 0,
     }
 }
 
-// The bytes of some hex digits, as many as the buffer holds; how many they are.
-fn decoded(dst: &mut [u8], hex: &[u8]) -> usize {
-    let n = hex.len() / 2;
-    let mut i = 0;
-    while i < n {
-        if dst.len() <= i {
-            return i;
-        }
-        dst[i] = digit(byte(hex, 2 * i)) * 16 + digit(byte(hex, 2 * i + 1));
-        i += 1;
-    }
-    n
+fn number(digits: &[u8]) -> usize {
+    digits.iter().fold(0usize, |n, c| {
+        n.saturating_mul(10).saturating_add(usize::from(digit(*c)))
+    })
 }
 
-// A number in at most six digits.
-fn number(s: &[u8]) -> usize {
-    let mut n: usize = 0;
-    let mut i = 0;
-    while i < s.len() {
-        n = (n * 10 + digit(s[i]) as usize) % 1_000_000;
-        i += 1;
-    }
-    n
+fn bytes_of(alloc: Global, hex: &[u8]) -> Result<Vec<u8>, AllocError> {
+    let (pairs, _) = hex.as_chunks::<2>();
+    pairs
+        .iter()
+        .map(|[high, low]| digit(*high) * 16 + digit(*low))
+        .collect(alloc)
 }
 
-// ---- a line
-
-fn fill(dst: &mut [u8]) {
-    let mut i = 0;
-    while i < dst.len() {
-        dst[i] = MARK;
-        i += 1;
-    }
+// A literal of a mode, and what the grammar says of it: the bytes that it means, or the place where it is none.
+#[derive(Drop)]
+struct Case {
+    no_backslash_escape: bool,
+    input: Vec<u8>,
+    said: Result<Vec<u8>, usize>,
 }
 
-// Whether the bytes are as they were.
-fn untouched(dst: &[u8]) -> bool {
-    let mut i = 0;
-    while i < dst.len() {
-        if dst[i] != MARK {
+impl Case {
+    // A line has the mode in front, the input behind it up to a space, and then the sign and what it says.
+    fn of(alloc: Global, line: &[u8]) -> Result<Self, AllocError> {
+        let fields = line.get(2..).unwrap_or_default();
+        let end = fields.iter().position(|b| *b == b' ');
+        let (input, said) = fields.split_at(end.unwrap_or(fields.len()));
+        let told = said.get(3..).unwrap_or_default();
+        Ok(Case {
+            no_backslash_escape: line.starts_with(b"o"),
+            input: bytes_of(alloc, input)?,
+            said: if said.starts_with(b" =") {
+                Ok(bytes_of(alloc, told)?)
+            } else {
+                Err(number(told))
+            },
+        })
+    }
+
+    // Whether the answer into a buffer of so many bytes is this one, and the buffer holds these bytes then, and behind them what it held.
+    fn writes(&self, room: usize, due: Answer, meaning: &[u8]) -> bool {
+        let mut space = [MARK; ROOM];
+        let Some(buf) = space.get_mut(..room) else {
             return false;
-        }
-        i += 1;
+        };
+        let said = answer(literal::checked(buf, &self.input, self.no_backslash_escape));
+        said == due
+            && buf
+                .strip_prefix(meaning)
+                .is_some_and(|behind| behind.iter().all(|b| *b == MARK))
     }
-    true
-}
 
-fn untouched_from(dst: &[u8], at: usize) -> bool {
-    untouched(wire::part(dst, at, minus(dst.len(), at)))
-}
-
-fn means(a: Answer, n: usize) -> bool {
-    match a {
-        Answer::Means(m) => m == n,
-        Answer::Refused(_, _) => false,
-    }
-}
-
-fn refused(a: Answer, number: u8, at: usize) -> bool {
-    match a {
-        Answer::Means(_) => false,
-        Answer::Refused(r, place) => {
-            if refusal::number_of(r) != number {
-                return false;
+    fn is_right(&self) -> bool {
+        let counted = answer(literal::checked_len(&self.input, self.no_backslash_escape));
+        match &self.said {
+            Ok(meaning) => {
+                let n = meaning.len();
+                let no_room = Err((Refusal::NoRoom, 0));
+                counted == Ok(n)
+                    && self.writes(ROOM, Ok(n), meaning)
+                    && self.writes(n, Ok(n), meaning)
+                    && (n == 0 || self.writes(n - 1, no_room, b""))
             }
-            place == at
+            Err(place) => {
+                let bad = Err((Refusal::BadLiteral, *place));
+                // 15 comes before 6: also with no room at all.
+                counted == bad && self.writes(ROOM, bad, b"") && self.writes(0, bad, b"")
+            }
         }
     }
 }
 
-// With room to spare: what stands behind the meaning stays.
-fn written(dst: &mut [u8], input: &[u8], other: bool, want: &[u8]) -> bool {
-    fill(dst);
-    if !means(literal::checked(dst, input, other), want.len()) {
-        return false;
+fn main(rt: HostRuntime) -> io::Result<()> {
+    let mut list = Vec::new(rt.alloc());
+    File::open(&rt, "literals.txt")?
+        .take(LIST)
+        .read_to_end(&mut list)?;
+    let mut cases = Vec::new(rt.alloc());
+    for line in list.split_inclusive(|b| *b == b'\n') {
+        let line = line.strip_suffix(b"\n").unwrap_or(line);
+        cases.push(Case::of(rt.alloc(), line)?)?;
     }
-    if !check::same(wire::part(dst, 0, want.len()), want) {
-        return false;
-    }
-    untouched_from(dst, want.len())
-}
-
-// With just enough room.
-fn written_whole(dst: &mut [u8], input: &[u8], other: bool, want: &[u8]) -> bool {
-    fill(dst);
-    if !means(literal::checked(dst, input, other), want.len()) {
-        return false;
-    }
-    check::same(dst, want)
-}
-
-fn not_written(dst: &mut [u8], input: &[u8], other: bool, number: u8, at: usize) -> bool {
-    fill(dst);
-    if !refused(literal::checked(dst, input, other), number, at) {
-        return false;
-    }
-    untouched(dst)
-}
-
-fn written_in(dst: &mut [u8], n: usize, input: &[u8], other: bool, want: &[u8]) -> bool {
-    if dst.len() < n {
-        return false;
-    }
-    written_whole(&mut dst[..n], input, other, want)
-}
-
-fn not_written_in(dst: &mut [u8], n: usize, input: &[u8], other: bool) -> bool {
-    if dst.len() < n {
-        return false;
-    }
-    not_written(&mut dst[..n], input, other, 6, 0)
-}
-
-fn good_right(dst: &mut [u8], input: &[u8], other: bool, want: &[u8]) -> bool {
-    let n = want.len();
-    if !means(literal::checked_len(input, other), n) {
-        return false;
-    }
-    if !written(dst, input, other, want) {
-        return false;
-    }
-    if !written_in(dst, n, input, other, want) {
-        return false;
-    }
-    if n == 0 {
-        return true;
-    }
-    not_written_in(dst, n - 1, input, other)
-}
-
-// 15 comes before 6: also with no room at all.
-fn bad_right(dst: &mut [u8], input: &[u8], other: bool, at: usize) -> bool {
-    if !refused(literal::checked_len(input, other), 15, at) {
-        return false;
-    }
-    if !not_written(dst, input, other, 15, at) {
-        return false;
-    }
-    not_written(&mut dst[..0], input, other, 15, at)
-}
-
-// Where the input ends in a line.
-fn gap(line: &[u8]) -> usize {
-    if line.len() < 2 {
-        return 0;
-    }
-    place_of(line, 2, 0x20)
-}
-
-fn is_good(line: &[u8]) -> bool {
-    byte(line, plus(gap(line), 1)) == 0x3D
-}
-
-fn is_other(line: &[u8]) -> bool {
-    byte(line, 0) == 0x6F
-}
-
-fn line_right(line: &[u8], source: &mut [u8], want: &mut [u8], dst: &mut [u8]) -> bool {
-    let end = gap(line);
-    let n = decoded(source, wire::part(line, 2, minus(end, 2)));
-    let input = wire::part(source, 0, n);
-    let from = plus(end, 3);
-    let said = wire::part(line, from, minus(line.len(), from));
-    if is_good(line) {
-        let m = decoded(want, said);
-        good_right(dst, input, is_other(line), wire::part(want, 0, m))
-    } else {
-        bad_right(dst, input, is_other(line), number(said))
-    }
-}
-
-// ---- all of them
-
-#[derive(Clone, Copy)]
-struct Tally {
-    lines: usize,
-    other: usize,
-    good: usize,
-    wrong: usize,
-}
-
-fn count(n: usize, more: bool) -> usize {
-    if more { plus(n, 1) } else { n }
-}
-
-fn say(what: &[u8], n: usize) {
-    io::write_all(STDOUT_FILENO, what);
-    io::print_decimal(STDOUT_FILENO, n as u64);
-    io::write_all(STDOUT_FILENO, b"\n");
-}
-
-fn tallied(t: Tally, line: &[u8], source: &mut [u8], want: &mut [u8], dst: &mut [u8]) -> Tally {
-    let right = line_right(line, source, want, dst);
-    let lines = count(t.lines, true);
-    if !right {
-        say(b"differs: line ", lines);
-    }
-    Tally {
-        lines,
-        other: count(t.other, is_other(line)),
-        good: count(t.good, is_good(line)),
-        wrong: count(t.wrong, !right),
-    }
-}
-
-fn replayed(file: &[u8], source: &mut [u8], want: &mut [u8], dst: &mut [u8]) -> Tally {
-    let mut t = Tally {
-        lines: 0,
-        other: 0,
-        good: 0,
-        wrong: 0,
-    };
-    let mut at = 0;
-    while at < file.len() {
-        let end = place_of(file, at, 0x0A);
-        t = tallied(t, &file[at..end], source, want, dst);
-        if end == file.len() {
-            return t;
+    let mut differences = 0usize;
+    for (k, case) in cases.iter().enumerate() {
+        if !case.is_right() {
+            println!(rt; "differs: line {}", k.saturating_add(1))?;
+            differences = differences.saturating_add(1);
         }
-        at = end + 1;
     }
-    t
-}
-
-fn main(rt: HostRuntime) -> std::io::Result<()> {
-    let mut input = File::open(&rt, "literals.txt")?;
-    let mut buffer = io::large_buffer();
-    let (size, ended) = files::read_full(&mut input, &mut buffer);
-    ended?;
-    let file = &buffer[..size];
-    let mut first = [0u8; 256];
-    let source: &mut [u8] = &mut first;
-    let mut second = [0u8; 256];
-    let want: &mut [u8] = &mut second;
-    let mut third = [0u8; 256];
-    let dst: &mut [u8] = &mut third;
-    let t = replayed(file, source, want, dst);
-    say(b"literals ", t.lines);
-    say(b"of them in the other mode ", t.other);
-    say(b"good ", t.good);
-    say(b"differences ", t.wrong);
-    Ok(())
+    println!(rt; "literals {}", cases.len())?;
+    let other = cases.iter().filter(|case| case.no_backslash_escape).count();
+    println!(rt; "of them in the other mode {other}")?;
+    let good = cases.iter().filter(|case| case.said.is_ok()).count();
+    println!(rt; "good {good}")?;
+    println!(rt; "differences {differences}")
 }

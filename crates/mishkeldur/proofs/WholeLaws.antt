@@ -1,4 +1,5 @@
 -- The common case of reading is the reader's: by the bytes of the state alone, of which it changes one.
+use Rattle.std.specs.Prelude.{Some, None}
 use Rattle.std.proofs.Common.{◌≡◌, ℕ, zero, suc, ◌+◌, ◌-◌, ◌%◌, ◌<◌, ◌≤◌, Bool, true, false, cond, eqb, List, [], ◌∷◌, ◌++◌, length, get_or}
 use Rattle.std.proofs.Common.{take, drop, set, sym, refl, ap, ◌∙◌, arith, length-drop, length-set, get_or-drop, get_or-set_other, get_or-take}
 use Rattle.std.proofs.Common.{get_or-set_same, take-take, drop-drop, drop-set-lt, take-add, le-ltb, eq-eqb, eqb-true}
@@ -11,7 +12,6 @@ use Rattle.chunk.specs.Chunks.{largest, next}
 use Rattle.chunk.specs.Read.{packet}
 use Rattle.chunk.specs.ReadLaws.{read_whole}
 use Rattle.chunk.specs.RoundLaws.{expected}
-use Rattle.chunk.specs.declared.Tolerance.TheVariants.{Strict, Also}
 use Rattle.frame.specs.Codec.{unread_of, last_number}
 use Rattle.frame.specs.WholeLaws.{Fits, framed-whole}
 use Rattle.frame.specs.declared.PacketCodec.{PacketCodec}
@@ -20,10 +20,6 @@ use Rattle.mishkeldur.specs.Face.{flag_no}
 use Rattle.mishkeldur.specs.State.{mark, codec_of, state_bytes, keeping, Reads}
 use Rattle.mishkeldur.specs.StateLaws.{length_state}
 use Rattle.mishkeldur.specs.Whole.{Idle, Whole, WholeFrame}
-
--- a test that has failed tells nothing
-pub untold : {P : Type 0} → false ≡ true → P
-untold e = absurd (let z : ◌≡◌ {A = ℕ} 0 1 = cc e in omega arith)
 
 -- ---- a state's bytes are kept as they stand, where its flags are 0 or 1
 
@@ -242,7 +238,7 @@ module _ (s : List ℕ) (long : 128 ≤ length s) (byte : (i : ℕ) → get_or s
     plain_call =
         let h = w.chunk in
         let sum : n - 4 + 4 ≡ n = omega (arith, w.least) in
-        let e = read_whole largest Strict (le_at s 8 8) (get_or s 1 0) u b (omega (arith, h.size, h.front)) (eq-eqb _ _ h.number)
+        let e = read_whole largest None (le_at s 8 8) (get_or s 1 0) u b (omega (arith, h.size, h.front)) (eq-eqb _ _ h.number)
         (omega (arith, h.size, h.limit)) (omega (arith, h.size, h.fits)) (λ z. h.last (h.size ∙ z)) in
         rw (calm_codec at_rest, chunk_codec at_rest, e, ← h.size, sum, h.number) refl
 
@@ -290,7 +286,7 @@ module _ (s : List ℕ) (long : 128 ≤ length s) (byte : (i : ℕ) → get_or s
           number = w.header.number;
           staging = omega (arith, w.size, w.header.stages);
           one = omega (arith, w.size, w.least, header);
-          sync = rw (number, h.number) (expected (Also (last_number (next (get_or s 4 0)))) (get_or s 1 0));
+          sync = rw (number, h.number) (expected (Some (last_number (next (get_or s 4 0)))) (get_or s 1 0));
           room = omega (arith, header, h.fits);
           last = λ z. h.last (sym header ∙ z);
         }

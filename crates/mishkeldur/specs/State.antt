@@ -8,7 +8,8 @@ use Rattle.frame.specs.Codec.{unread_of}
 use Rattle.frame.specs.Read.{Done}
 use Rattle.frame.specs.Write.{Sent}
 use Rattle.frame.specs.declared.PacketCodec.{PacketCodec}
-use Rattle.codec.specs.Connection.{Opening, opens, refuses, opening, read_packet, staging_stays, write_packet}
+use Rattle.chunk.specs.Read.{Opening, opens, refuses}
+use Rattle.codec.specs.Connection.{opening, read_packet, staging_stays, write_packet}
 use Rattle.mishkeldur.specs.Face.{status, holds, flag_no}
 
 -- "a lent byte slice of 128 bytes"
@@ -53,11 +54,11 @@ short s = nat_lt (length s) state_size
 
 -- ---- opening, and what changes a codec between packets
 
-abbrev pub opening_status : Opening → ℕ
+abbrev pub opening_status : Opening PacketCodec → ℕ
 opening_status (opens c) = 0
 opening_status (refuses k c) = k
 
-abbrev pub opening_codec : Opening → PacketCodec
+abbrev pub opening_codec : Opening PacketCodec → PacketCodec
 opening_codec (opens c) = c
 opening_codec (refuses k c) = c
 

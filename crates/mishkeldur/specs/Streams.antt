@@ -3,7 +3,8 @@ use Rattle.std.specs.Prelude.{◌≡◌, ℕ, Bool, true, cond, List, [], ◌∷
 use Rattle.wire.specs.Le.{le_at, le_bytes}
 use Rattle.wire.specs.Room.{patch}
 use Rattle.chunk.specs.Chunks.{largest}
-use Rattle.stream.specs.Stream.{Opening, opens, refuses, opening, Answered, need_more, part, refused, Done, pass, renumbered}
+use Rattle.chunk.specs.Read.{Opening, opens, refuses}
+use Rattle.stream.specs.Stream.{opening, Answered, need_more, part, refused, Done, pass, renumbered}
 use Rattle.stream.specs.declared.Stream.{Stream}
 use Rattle.mishkeldur.specs.Face.{flag, flag_no}
 
@@ -49,11 +50,11 @@ small s = nat_lt (length s) stream_size
 
 -- ---- opening, and the next chunk's number
 
-abbrev pub opening_status : Opening → ℕ
+abbrev pub opening_status : Opening Stream → ℕ
 opening_status (opens st) = 0
 opening_status (refuses k st) = k
 
-abbrev pub opening_stream : Opening → Stream
+abbrev pub opening_stream : Opening Stream → Stream
 opening_stream (opens st) = st
 opening_stream (refuses k st) = st
 

@@ -1,8 +1,8 @@
 -- What a value, a session record and a variable are to C.
+use Rattle.wire.specs.declared.Text.{Text}
 use Rattle.std.specs.Prelude.{ℕ, Bool, cond, List, ℤ, ◌==◌, to_bits}
 use Rattle.std.specs.Float.{binary32, binary64}
 use Rattle.wire.specs.LenEnc.{part_of}
-use Rattle.wire.specs.declared.LenEncStr.{LenEncStr}
 use Rattle.duration.specs.declared.Time.{Time}
 use Rattle.value.specs.Dates.{date_of}
 use Rattle.value.specs.declared.Date.{Date}
@@ -83,7 +83,7 @@ len_of (Of.Time t) old = old
 -- ---- dates and times by their fields
 
 -- the date in the bytes behind a length byte
-abbrev pub date_in : List ℕ → LenEncStr → Date
+abbrev pub date_in : List ℕ → Text → Date
 date_in s p = date_of (part_of s p.at p.len)
 
 abbrev pub date_from : (year month day hour minutes seconds micros : ℕ) → Date

@@ -1,5 +1,5 @@
 // OK, ERR and EOF packets.
-ghost use Rattle.std.specs.Prelude.{◌≡◌, ◌≤◌, [], ◌∷◌, length};
+ghost use Rattle.std.specs.Prelude.{◌≡◌};
 ghost use Rattle.wire.specs.Room.{patch};
 ghost use Rattle.answer.specs.Answer.{answer_at};
 ghost use Rattle.answer.specs.Records.{next_at};
@@ -7,8 +7,8 @@ ghost use Rattle.answer.specs.Written.{ok_bytes, eof_bytes, record_on_wire};
 ghost use Rattle.mishkeldur.specs.Face.{status, holds, flag, Puts};
 ghost use Rattle.mishkeldur.specs.Answers.{answer_numbers, packet_numbers, listed, found_record, of_record, PutsErr};
 
-use crate::{flag, put_status};
-use answer::{NextRecord, Packet, ReadAnswer};
+use crate::{flag, give};
+use answer::Packet;
 use refusal::{Refusal, number_of};
 
 // How many numbers a packet is.
@@ -16,50 +16,17 @@ const NUMBERS: usize = 11;
 
 // ---- reading
 
-// The eleven numbers at the front of the list; what lies behind them stays.
-fn fill(
-    out: &mut [u64],
-    kind: u64,
-    used: u64,
-    status: u64,
-    warnings: u64,
-    rows: u64,
-    id: u64,
-    code: u64,
-    message_at: u64,
-    message_len: u64,
-    part_at: u64,
-    part_len: u64,
-)
-    requires { 11 ≤ length out.old }
-    ensures { out.new ≡ patch out.old 0
-        (kind ∷ used ∷ status ∷ warnings ∷ rows ∷ id ∷ code ∷ message_at ∷ message_len ∷ part_at ∷ part_len ∷ []) }
+// A packet's eleven numbers.
+fn numbers_of(packet: Packet, used: usize) -> [u64; NUMBERS]
+    ensures { result ≡ packet_numbers packet used }
 {
-    out[0] = kind;
-    out[1] = used;
-    out[2] = status;
-    out[3] = warnings;
-    out[4] = rows;
-    out[5] = id;
-    out[6] = code;
-    out[7] = message_at;
-    out[8] = message_len;
-    out[9] = part_at;
-    out[10] = part_len;
-}
-
-// A packet's numbers to the front of the list.
-fn put_numbers(out: &mut [u64], packet: Packet, used: usize)
-    requires { 11 ≤ length out.old }
-    ensures { out.new ≡ patch out.old 0 (packet_numbers packet used) }
-{
+    let used = used as u64;
     match packet {
-        Packet::Ok(p) => fill(
-            out,
+        Packet::Ok(p) => [
             0x00,
-            used as u64,
-            p.status as u64,
-            p.warnings as u64,
+            used,
+            u64::from(p.status),
+            u64::from(p.warnings),
             p.affected_rows,
             p.last_insert_id,
             0,
@@ -67,27 +34,25 @@ fn put_numbers(out: &mut [u64], packet: Packet, used: usize)
             p.message.len as u64,
             p.records.at as u64,
             p.records.len as u64,
-        ),
-        Packet::Err(p) => fill(
-            out,
+        ],
+        Packet::Err(p) => [
             0xFF,
-            used as u64,
+            used,
             0,
             0,
             0,
             0,
-            p.code as u64,
+            u64::from(p.code),
             p.message.at as u64,
             p.message.len as u64,
             p.state.at as u64,
             p.state.len as u64,
-        ),
-        Packet::Eof(p) => fill(
-            out,
+        ],
+        Packet::Eof(p) => [
             0xFE,
-            used as u64,
-            p.status as u64,
-            p.warnings as u64,
+            used,
+            u64::from(p.status),
+            u64::from(p.warnings),
             0,
             0,
             0,
@@ -95,11 +60,12 @@ fn put_numbers(out: &mut [u64], packet: Packet, used: usize)
             0,
             0,
             0,
-        ),
+        ],
     }
 }
 
 // A packet by its header byte, as the eleven numbers at the front of the list; `tracking` says whether session tracking was agreed.
+#[tactic(auto, using(crate::proofs::AnswerLaws::front_filled))]
 #[unsafe(no_mangle)]
 pub extern "C" fn mk_read_answer(packet: &[u8], tracking: u8, out: &mut [u64]) -> u8
     ensures { (result ≡ status (listed out.old (answer_at packet.now (flag tracking))))
@@ -110,12 +76,11 @@ pub extern "C" fn mk_read_answer(packet: &[u8], tracking: u8, out: &mut [u64]) -
         return number_of(Refusal::NoRoom);
     }
     match answer::read_answer(packet, flag(tracking)) {
-        ReadAnswer::Done(a) => {
-            let p = a.packet;
-            put_numbers(out, p, a.used);
+        Ok(a) => {
+            out[..NUMBERS].copy_from_slice(&numbers_of(a.packet, a.used));
             0
         }
-        ReadAnswer::Refused(r) => number_of(r),
+        Err(r) => number_of(r),
     }
 }
 
@@ -140,11 +105,11 @@ pub extern "C" fn mk_next_record(
         × (next.new ≡ holds (next_at packet.now at end) (λ x. of_record x (λ h. h.next) next.old) next.old) }
 {
     match answer::next_record(packet, at, end) {
-        NextRecord::End => {
+        Ok(None) => {
             *found = 0;
             0
         }
-        NextRecord::Record(h) => {
+        Ok(Some(h)) => {
             *found = 1;
             *kind = h.kind;
             *place = h.at;
@@ -152,7 +117,7 @@ pub extern "C" fn mk_next_record(
             *next = h.next;
             0
         }
-        NextRecord::Refused(r) => number_of(r),
+        Err(r) => number_of(r),
     }
 }
 
@@ -175,7 +140,7 @@ pub extern "C" fn mk_put_ok(
     ensures { Puts (ok_bytes rows id status warnings message.now records.now (flag tracking))
         dst.old at next.old result dst.new next.new }
 {
-    put_status(
+    give(
         answer::put_ok(
             dst,
             at,
@@ -204,7 +169,7 @@ pub extern "C" fn mk_put_err(
     ensures { PutsErr code state.now message.now
         dst.old at next.old result dst.new next.new }
 {
-    put_status(answer::put_err(dst, at, code, state, message), next)
+    give(answer::put_err(dst, at, code, state, message), next)
 }
 
 // An EOF packet.
@@ -218,7 +183,7 @@ pub extern "C" fn mk_put_eof(
 ) -> u8
     ensures { Puts (eof_bytes warnings status) dst.old at next.old result dst.new next.new }
 {
-    put_status(answer::put_eof(dst, at, warnings, status), next)
+    give(answer::put_eof(dst, at, warnings, status), next)
 }
 
 // A record with its type and length, as an OK packet carries it; `body` is as the writers of records make it.
@@ -233,5 +198,5 @@ pub extern "C" fn mk_put_typed_record(
     ensures { Puts (record_on_wire body.now kind)
         dst.old at next.old result dst.new next.new }
 {
-    put_status(answer::put_record(dst, at, body, kind), next)
+    give(answer::put_record(dst, at, body, kind), next)
 }

@@ -3,8 +3,7 @@ ghost use Rattle.std.specs.Prelude.{◌≡◌};
 ghost use Rattle.salvage.specs.Salvage.{stretches, numbers, counted, salvaged, left_in};
 ghost use Rattle.mishkeldur.specs.Face.{status, holds};
 
-use refusal::number_of;
-use salvage::Salvaged;
+use crate::give;
 
 // How many stretches a damaged capture has.
 #[unsafe(no_mangle)]
@@ -12,13 +11,7 @@ pub extern "C" fn mk_stretches(limit: usize, capture: &[u8], count: &mut usize) 
     ensures { (result ≡ status (counted limit capture.now))
         × (count.new ≡ holds (counted limit capture.now) (λ n. n) count.old) }
 {
-    match salvage::stretches(limit, capture) {
-        Salvaged::Stretches(n) => {
-            *count = n;
-            0
-        }
-        Salvaged::Refused(r) => number_of(r),
-    }
+    give(salvage::stretches(limit, capture), count)
 }
 
 // The stretches of a damaged capture, four numbers each, and how many there are.
@@ -34,11 +27,5 @@ pub extern "C" fn mk_salvage(
         (numbers (stretches limit capture.now)) out.old)
         × (count.new ≡ holds (salvaged limit capture.now out.old) (λ n. n) count.old) }
 {
-    match salvage::salvage(limit, capture, out) {
-        Salvaged::Stretches(n) => {
-            *count = n;
-            0
-        }
-        Salvaged::Refused(r) => number_of(r),
-    }
+    give(salvage::salvage(limit, capture, out), count)
 }

@@ -8,17 +8,16 @@
 // that no opening has made is most likely a closed one, and never anything worse.
 #![tactic(auto)]
 
+ghost use Rattle.refusal.specs.Said.{said_of};
 ghost use Rattle.std.specs.Prelude.{◌≡◌, ◌≤◌, length};
-ghost use Rattle.wire.specs.Room.{put_said};
 ghost use Rattle.frame.specs.Codec.{renumbered};
 ghost use Rattle.codec.specs.Connection.{frames_on, synced};
 ghost use Rattle.mishkeldur.specs.Face.{status, holds, flag};
 ghost use Rattle.mishkeldur.specs.State.{state_size, Opens, Changes, Looks, Reads, Writes};
 
-use codec::{Got, Opened};
+use frame::PacketCodec;
 use refusal::{Refusal, number_of};
 use state::{load, store, whole, whole_frame};
-use wire::Put;
 use wire::inner::copy;
 
 mod answers;
@@ -40,19 +39,19 @@ pub(crate) const NEED_MORE: u8 = 255;
 pub(crate) fn flag(n: u8) -> bool
     ensures { result ≡ flag n }
 {
-    if n == 0 { false } else { true }
+    n != 0
 }
 
-// What a writer answered, as a status and the place behind what it wrote.
-pub(crate) fn put_status(p: Put, next: &mut usize) -> u8
-    ensures { (result ≡ status (put_said p)) × (next.new ≡ holds (put_said p) (λ n. n) next.old) }
+// What a room answered, as a status; a value goes to its lent place, and a refusal leaves that as it was.
+pub(crate) fn give<T: Copy>(answer: Result<T, Refusal>, place: &mut T) -> u8
+    ensures { (result ≡ status (said_of answer)) × (place.new ≡ holds (said_of answer) (λ x. x) place.old) }
 {
-    match p {
-        Put::Next(n) => {
-            *next = n;
+    match answer {
+        Ok(x) => {
+            *place = x;
             0
         }
-        Put::Refused(r) => number_of(r),
+        Err(r) => number_of(r),
     }
 }
 
@@ -72,16 +71,25 @@ pub extern "C" fn mk_open(state: &mut [u8], limit: usize) -> u8
     if state.len() < STATE_SIZE {
         return number_of(Refusal::NoRoom);
     }
-    match codec::opening(limit) {
-        Opened::Open(codec) => {
-            store(state, codec);
-            0
-        }
-        Opened::Refused(r, codec) => {
-            store(state, codec);
-            number_of(r)
-        }
+    let (codec, status) = match codec::opening(limit) {
+        Ok(codec) => (codec, 0),
+        Err(shut) => (shut.state, number_of(shut.why)),
+    };
+    store(state, codec);
+    status
+}
+
+// What changes a codec between packets.
+fn change_codec<F: FnOnce(PacketCodec) -> PacketCodec>(state: &mut [u8], change: F) -> u8
+    requires { F.IsAlwaysCallable change }
+    ensures { (f : _) → ((c d : _) → F.post change c d → d ≡ f c) → Changes f state.old result state.new }
+{
+    if state.len() < STATE_SIZE {
+        return number_of(Refusal::NoRoom);
     }
+    let codec = load(state);
+    store(state, change(codec));
+    0
 }
 
 // Turns frames on. On again does nothing.
@@ -89,12 +97,7 @@ pub extern "C" fn mk_open(state: &mut [u8], limit: usize) -> u8
 pub extern "C" fn mk_frames_on(state: &mut [u8]) -> u8
     ensures { Changes frames_on state.old result state.new }
 {
-    if state.len() < STATE_SIZE {
-        return number_of(Refusal::NoRoom);
-    }
-    let codec = load(state);
-    store(state, codec::frames_on(codec));
-    0
+    change_codec(state, codec::frames_on)
 }
 
 // The next chunk and the next frame have the number 0.
@@ -102,12 +105,7 @@ pub extern "C" fn mk_frames_on(state: &mut [u8]) -> u8
 pub extern "C" fn mk_reset_seq_id(state: &mut [u8]) -> u8
     ensures { Changes (λ c. renumbered c 0) state.old result state.new }
 {
-    if state.len() < STATE_SIZE {
-        return number_of(Refusal::NoRoom);
-    }
-    let codec = load(state);
-    store(state, codec::reset_seq_id(codec));
-    0
+    change_codec(state, codec::reset_seq_id)
 }
 
 // The next chunk has the number of the next frame, if frames are on and nothing is unread.
@@ -115,12 +113,7 @@ pub extern "C" fn mk_reset_seq_id(state: &mut [u8]) -> u8
 pub extern "C" fn mk_sync_seq_id(state: &mut [u8]) -> u8
     ensures { Changes synced state.old result state.new }
 {
-    if state.len() < STATE_SIZE {
-        return number_of(Refusal::NoRoom);
-    }
-    let codec = load(state);
-    store(state, codec::sync_seq_id(codec));
-    0
+    change_codec(state, codec::sync_seq_id)
 }
 
 // The numbers of a state, for who looks: those of the next chunk and the next frame, how many bytes of staging are unread,
@@ -169,23 +162,15 @@ fn read_codec(
         return number_of(Refusal::Closed);
     }
     let d = codec::decode(codec, src, staging, packet);
-    let got = d.got;
-    let next = d.next;
-    store(state, next);
-    match got {
-        Got::NeedMore(n) => {
-            *used = n;
-            NEED_MORE
-        }
-        Got::Packet(n, size) => {
-            *used = n;
-            *len = size;
+    *used = d.used;
+    store(state, d.next);
+    match d.answer {
+        Ok(None) => NEED_MORE,
+        Ok(Some(n)) => {
+            *len = n;
             0
         }
-        Got::Refused(taken, r) => {
-            *used = taken;
-            number_of(r)
-        }
+        Err(r) => number_of(r),
     }
 }
 
@@ -207,19 +192,17 @@ pub extern "C" fn mk_read(
         *used = 0;
         return number_of(Refusal::NoRoom);
     }
-    let n = whole(state, src, packet.len());
-    if n != 0 {
+    if let Some(n) = whole(state, src, packet.len()) {
         copy(packet, 0, &src[4..n]);
-        state[1] = std::num::wrapping_add_u8(state[1], 1);
+        state[1] = state[1].wrapping_add(1);
         *used = n;
         *len = n - 4;
         return 0;
     }
-    let n = whole_frame(state, src, staging.len(), packet.len());
-    if n != 0 {
+    if let Some(n) = whole_frame(state, src, staging.len(), packet.len()) {
         copy(packet, 0, &src[11..n]);
-        state[1] = std::num::wrapping_add_u8(state[1], 1);
-        state[4] = std::num::wrapping_add_u8(state[4], 1);
+        state[1] = state[1].wrapping_add(1);
+        state[4] = state[4].wrapping_add(1);
         *used = n;
         *len = n - 11;
         return 0;
@@ -243,14 +226,12 @@ pub extern "C" fn mk_write(
     }
     let codec = load(state);
     let e = codec::encode(codec, packet, dst);
-    let put = e.put;
-    let next = e.next;
-    match put {
-        Put::Next(n) => {
-            store(state, next);
+    match e.put {
+        Ok(n) => {
+            store(state, e.next);
             *written = n;
             0
         }
-        Put::Refused(r) => number_of(r),
+        Err(r) => number_of(r),
     }
 }

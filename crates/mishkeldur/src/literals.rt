@@ -5,25 +5,23 @@ ghost use Rattle.mishkeldur.specs.Face.{flag};
 ghost use Rattle.mishkeldur.specs.Literals.{Judges};
 
 use crate::flag;
-use literal::Answer;
+use literal::Bad;
 use refusal::{Refusal, number_of};
 
 // What the checker answered, as a status: the number of bytes meant where it is 0, the place where it is a bad literal.
-fn answer_status(a: Answer, len: &mut usize, place: &mut usize) -> u8
+fn answer_status(a: Result<usize, Bad>, len: &mut usize, place: &mut usize) -> u8
     ensures { Judges (said a) len.old place.old result len.new place.new }
 {
     match a {
-        Answer::Means(n) => {
+        Ok(n) => {
             *len = n;
             0
         }
-        Answer::Refused(r, at) => {
-            let number = number_of(r);
-            if number == number_of(Refusal::BadLiteral) {
-                *place = at;
-                return number;
+        Err(bad) => {
+            if bad.why == Refusal::BadLiteral {
+                *place = bad.place;
             }
-            number
+            number_of(bad.why)
         }
     }
 }

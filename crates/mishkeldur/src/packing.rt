@@ -3,8 +3,7 @@ ghost use Rattle.std.specs.Prelude.{◌≡◌};
 ghost use Rattle.pack.specs.Pack.{judged, plan, planned, leaves};
 ghost use Rattle.mishkeldur.specs.Face.{status, holds, flag_no};
 
-use pack::{Judged, Planned};
-use refusal::number_of;
+use crate::give;
 
 // Where to cut: each group's end in the front of the list, and how many groups there are.
 #[unsafe(no_mangle)]
@@ -20,13 +19,7 @@ pub extern "C" fn mk_plan(
         (plan overhead limit rows.now) ends.old)
         × (groups.new ≡ holds (planned overhead limit rows.now ends.old) (λ n. n) groups.old) }
 {
-    match pack::plan(rows, overhead, limit, ends) {
-        Planned::Groups(n) => {
-            *groups = n;
-            0
-        }
-        Planned::Refused(r) => number_of(r),
-    }
+    give(pack::plan(rows, overhead, limit, ends), groups)
 }
 
 // Whether a proposal is accepted, whoever made it, as 0 or 1.
@@ -41,15 +34,8 @@ pub extern "C" fn mk_judge(
     ensures { (result ≡ status (judged overhead limit rows.now proposal.now))
         × (accepted.new ≡ holds (judged overhead limit rows.now proposal.now) (λ b. flag_no b) accepted.old) }
 {
-    match pack::judge(rows, overhead, limit, proposal) {
-        Judged::Accepted => {
-            *accepted = 1;
-            0
-        }
-        Judged::Rejected => {
-            *accepted = 0;
-            0
-        }
-        Judged::Refused(r) => number_of(r),
-    }
+    give(
+        pack::judge(rows, overhead, limit, proposal).map(u8::from),
+        accepted,
+    )
 }

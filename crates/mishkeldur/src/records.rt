@@ -6,10 +6,10 @@ ghost use Rattle.session.specs.Record.{record_at, variable_at, record_bytes, pai
 ghost use Rattle.mishkeldur.specs.Face.{status, holds, flag, Puts};
 ghost use Rattle.mishkeldur.specs.Values.{text_place, text_len, tracked_no, change_of, found_no, of_pair};
 
-use crate::{flag, put_status};
+use crate::{flag, give};
 use refusal::number_of;
-use session::{ReadRecord, ReadVariable, SessionStateChange, Text};
-use wire::Needed;
+use session::SessionStateChange;
+use wire::Text;
 
 // ---- quoting
 
@@ -19,13 +19,7 @@ pub extern "C" fn mk_escaped_len(input: &[u8], no_backslash_escape: u8, len: &mu
     ensures { (result ≡ status (length_of (quoted (flag no_backslash_escape) input.now)))
         × (len.new ≡ holds (length_of (quoted (flag no_backslash_escape) input.now)) (λ n. n) len.old) }
 {
-    match escape::escaped_len(input, flag(no_backslash_escape)) {
-        Needed::Bytes(n) => {
-            *len = n;
-            0
-        }
-        Needed::Refused(r) => number_of(r),
-    }
+    give(escape::escaped_len(input, flag(no_backslash_escape)), len)
 }
 
 // The bytes quoted for SQL, by the server's mode NO_BACKSLASH_ESCAPES.
@@ -40,7 +34,7 @@ pub extern "C" fn mk_escaped(
     ensures { Puts (quoted (flag no_backslash_escape) input.now)
         dst.old at next.old result dst.new next.new }
 {
-    put_status(
+    give(
         escape::escaped(dst, at, input, flag(no_backslash_escape)),
         next,
     )
@@ -65,45 +59,24 @@ pub extern "C" fn mk_read_record(
         × (tracked.new ≡ holds (record_at s.now kind) (λ x. tracked_no x.change tracked.old) tracked.old)
         × (used.new ≡ holds (record_at s.now kind) (λ x. x.used) used.old) }
 {
-    match session::read_record(s, kind) {
-        ReadRecord::Done(x) => {
-            *used = x.used;
-            let change = x.change;
-            match change {
-                SessionStateChange::SystemVariables => 0,
-                SessionStateChange::Schema(t) => {
-                    *place = t.at;
-                    *len = t.len;
-                    0
-                }
-                SessionStateChange::IsTracked(b) => {
-                    *tracked = b as u8;
-                    0
-                }
-                SessionStateChange::Gtids(t) => {
-                    *place = t.at;
-                    *len = t.len;
-                    0
-                }
-                SessionStateChange::TransactionCharacteristics(t) => {
-                    *place = t.at;
-                    *len = t.len;
-                    0
-                }
-                SessionStateChange::TransactionState(t) => {
-                    *place = t.at;
-                    *len = t.len;
-                    0
-                }
-                SessionStateChange::Unsupported(t) => {
-                    *place = t.at;
-                    *len = t.len;
-                    0
-                }
-            }
+    let record = match session::read_record(s, kind) {
+        Ok(record) => record,
+        Err(r) => return number_of(r),
+    };
+    *used = record.used;
+    match record.change {
+        SessionStateChange::SystemVariables => {}
+        SessionStateChange::IsTracked(b) => *tracked = u8::from(b),
+        SessionStateChange::Schema(t)
+        | SessionStateChange::Gtids(t)
+        | SessionStateChange::TransactionCharacteristics(t)
+        | SessionStateChange::TransactionState(t)
+        | SessionStateChange::Unsupported(t) => {
+            *place = t.at;
+            *len = t.len;
         }
-        ReadRecord::Refused(r) => number_of(r),
     }
+    0
 }
 
 // The pair of variables at the cursor: found 1, its name and value, and the next cursor; or found 0 at the end, and the
@@ -131,11 +104,11 @@ pub extern "C" fn mk_next_variable(
         × (next.new ≡ holds (variable_at s.now at) (λ x. of_pair x (λ v. v.next) next.old) next.old) }
 {
     match session::next_variable(s, at) {
-        ReadVariable::End => {
+        Ok(None) => {
             *found = 0;
             0
         }
-        ReadVariable::Pair(v) => {
+        Ok(Some(v)) => {
             *found = 1;
             *name_at = v.name.at;
             *name_len = v.name.len;
@@ -144,11 +117,12 @@ pub extern "C" fn mk_next_variable(
             *next = v.next;
             0
         }
-        ReadVariable::Refused(r) => number_of(r),
+        Err(r) => number_of(r),
     }
 }
 
 // What a type, a text and a flag make: the text is all of the bytes lent.
+#[tactic(auto, unfolding(crate::specs::Values::change_of))]
 fn change_of(kind: u8, len: usize, tracked: bool) -> SessionStateChange
     ensures { result ≡ change_of kind len tracked }
 {
@@ -178,7 +152,7 @@ pub extern "C" fn mk_put_record(
         dst.old at next.old result dst.new next.new }
 {
     let change = change_of(kind, text.len(), flag(is_tracked));
-    put_status(session::put_record(dst, at, text, change), next)
+    give(session::put_record(dst, at, text, change), next)
 }
 
 // A name and its value, in a record of variables.
@@ -193,5 +167,5 @@ pub extern "C" fn mk_put_variable(
     ensures { Puts (pair_bytes name.now value.now)
         dst.old at next.old result dst.new next.new }
 {
-    put_status(session::put_variable(dst, at, name, value), next)
+    give(session::put_variable(dst, at, name, value), next)
 }

@@ -1,5 +1,5 @@
 // A codec in a lent byte slice. Every content of the slice is some codec, so nothing is asked of it but its length.
-ghost use Rattle.std.specs.Prelude.{◌≡◌, ◌+◌, ◌≤◌, true, length, if◌then◌else◌, ◌≢◌};
+ghost use Rattle.std.specs.Prelude.{◌≡◌, ℕ, ◌+◌, ◌≤◌, true, length, if◌then◌else◌, Some};
 ghost use Rattle.wire.specs.Le.{le_bytes};
 ghost use Rattle.wire.specs.Room.{patch};
 ghost use Rattle.mishkeldur.specs.State.{mark, codec_of, keeping};
@@ -7,7 +7,7 @@ ghost use Rattle.mishkeldur.specs.Whole.{Idle, Chunk, Whole, IdleFramed, Header,
 
 use chunk::MAX_PAYLOAD_LEN;
 use frame::PacketCodec;
-use wire::inner::{eight, le, put_le};
+use wire::inner::{le, put_le};
 
 // The first byte of an open state. That of a closed one is 0.
 const MARK: u8 = 0x4B;
@@ -20,43 +20,37 @@ fn mark_of(closed: bool) -> u8
 }
 
 // A count as eight bytes. Most calls change none of the counts, and what stands there already is not written again.
+#[tactic(auto, using(crate::proofs::StoreLaws::stands))]
 pub(crate) fn put_count(state: &mut [u8], at: usize, v: u64)
     requires { at + 8 ≤ length state.old }
     ensures { state.new ≡ patch state.old at (le_bytes 8 v) }
 {
-    if eight(state, at) != v {
+    if le(state, at, 8) != v {
         put_le(state, at, 8, v);
     }
 }
 
 // The codec that the bytes of a state mean. The counts stand in another order than in the record, so that no two of them are moved as one
 // right after they were written apart.
+#[tactic(auto, using(crate::proofs::StoreLaws::loaded))]
 pub(crate) fn load(state: &[u8]) -> PacketCodec
     requires { 48 ≤ length state.now }
     ensures { result ≡ codec_of state.now }
 {
-    let first = state[0];
-    let number = state[1];
-    let waiting = state[2];
-    let ahead = state[3];
-    let frame = state[4];
-    let held = state[5];
-    let coming = state[6];
-    let framed = state[7];
     PacketCodec {
-        limit: eight(state, 8) as usize,
-        taken: eight(state, 24) as usize,
-        len: eight(state, 40) as usize,
-        unread: eight(state, 16) as usize,
-        size: eight(state, 32) as usize,
-        number,
-        waiting: waiting == 1,
-        ahead,
-        closed: first != MARK,
-        frame,
-        held: held == 1,
-        coming,
-        framed: framed == 1,
+        limit: le(state, 8, 8) as usize,
+        taken: le(state, 24, 8) as usize,
+        len: le(state, 40, 8) as usize,
+        unread: le(state, 16, 8) as usize,
+        size: le(state, 32, 8) as usize,
+        number: state[1],
+        waiting: state[2] == 1,
+        ahead: state[3],
+        closed: state[0] != MARK,
+        frame: state[4],
+        held: state[5] == 1,
+        coming: state[6],
+        framed: state[7] == 1,
     }
 }
 
@@ -65,25 +59,13 @@ fn idle(state: &[u8], mode: u8) -> bool
     requires { 48 ≤ length state.now }
     ensures { result ≡ true → Idle mode state.now }
 {
-    if state[0] != MARK {
-        return false;
-    }
-    if state[2] != 0 {
-        return false;
-    }
-    if state[3] != 0 {
-        return false;
-    }
-    if state[5] != 0 {
-        return false;
-    }
-    if state[7] != mode {
-        return false;
-    }
-    if eight(state, 24) != 0 {
-        return false;
-    }
-    eight(state, 40) == 0
+    state[0] == MARK
+        && state[2] == 0
+        && state[3] == 0
+        && state[5] == 0
+        && state[7] == mode
+        && le(state, 24, 8) == 0
+        && le(state, 40, 8) == 0
 }
 
 // Whether len bytes of a packet stand at a place of src, as its one chunk with the state's number, and may be taken.
@@ -91,42 +73,27 @@ fn one_chunk(state: &[u8], src: &[u8], at: usize, room: usize, len: usize) -> bo
     requires { (48 ≤ length state.now) × (at + 4 + len ≤ length src.now) }
     ensures { result ≡ true → Chunk state.now src.now at room len }
 {
-    if le(src, at, 3) != len as u64 {
-        return false;
-    }
-    if src[at + 3] != state[1] {
-        return false;
-    }
-    if eight(state, 8) < len as u64 {
-        return false;
-    }
-    if room < len {
-        return false;
-    }
-    len != MAX_PAYLOAD_LEN
+    le(src, at, 3) == len as u64
+        && src[at + 3] == state[1]
+        && len as u64 <= le(state, 8, 8)
+        && len <= room
+        && len != MAX_PAYLOAD_LEN
 }
 
 // The common case, told without taking the codec apart: how many bytes the chunk at the front of src takes, where nothing is begun and
-// it is a whole packet that may be taken; else 0, and nothing is told.
-pub(crate) fn whole(state: &[u8], src: &[u8], room: usize) -> usize
+// it is a whole packet that may be taken. `None` tells nothing.
+pub(crate) fn whole(state: &[u8], src: &[u8], room: usize) -> Option<usize>
     requires { 48 ≤ length state.now }
-    ensures { (result ≢ 0) → Whole state.now src.now room result }
+    ensures { (n : ℕ) → result ≡ Some n → Whole state.now src.now room n }
 {
-    if src.len() < 4 {
-        return 0;
-    }
-    if !idle(state, 0) {
-        return 0;
+    if src.len() < 4 || !idle(state, 0) {
+        return None;
     }
     let len = le(src, 0, 3) as usize;
-    if src.len() - 4 < len {
-        return 0;
+    if src.len() - 4 < len || !one_chunk(state, src, 0, room, len) {
+        return None;
     }
-    if one_chunk(state, src, 0, room, len) {
-        len + 4
-    } else {
-        0
-    }
+    Some(len + 4)
 }
 
 // The same with frames on, no frame remembered and nothing unread.
@@ -134,16 +101,7 @@ fn idle_framed(state: &[u8]) -> bool
     requires { 48 ≤ length state.now }
     ensures { result ≡ true → IdleFramed state.now }
 {
-    if !idle(state, 1) {
-        return false;
-    }
-    if state[6] != 0 {
-        return false;
-    }
-    if eight(state, 16) != 0 {
-        return false;
-    }
-    eight(state, 32) == 0
+    idle(state, 1) && state[6] == 0 && le(state, 16, 8) == 0 && le(state, 32, 8) == 0
 }
 
 // Whether src begins with the header of a stored frame that has the next frame's number, and whose bytes may be taken.
@@ -151,47 +109,29 @@ fn stored_frame(state: &[u8], src: &[u8], staging: usize, size: usize) -> bool
     requires { (48 ≤ length state.now) × (7 ≤ length src.now) }
     ensures { result ≡ true → Header state.now src.now staging size }
 {
-    if src[3] != state[4] {
-        return false;
-    }
-    if le(src, 4, 3) != 0 {
-        return false;
-    }
-    if eight(state, 8) < size as u64 {
-        return false;
-    }
-    size <= staging
+    src[3] == state[4] && le(src, 4, 3) == 0 && size as u64 <= le(state, 8, 8) && size <= staging
 }
 
 // The same with frames on: how many bytes a frame takes that holds just such a chunk.
-pub(crate) fn whole_frame(state: &[u8], src: &[u8], staging: usize, room: usize) -> usize
+pub(crate) fn whole_frame(state: &[u8], src: &[u8], staging: usize, room: usize) -> Option<usize>
     requires { 48 ≤ length state.now }
-    ensures { (result ≢ 0) → WholeFrame state.now src.now staging room result }
+    ensures { (n : ℕ) → result ≡ Some n → WholeFrame state.now src.now staging room n }
 {
-    if src.len() < 11 {
-        return 0;
-    }
-    if !idle_framed(state) {
-        return 0;
+    if src.len() < 11 || !idle_framed(state) {
+        return None;
     }
     let size = le(src, 0, 3) as usize;
-    if size < 4 {
-        return 0;
+    if size < 4 || src.len() - 7 < size || !stored_frame(state, src, staging, size) {
+        return None;
     }
-    if src.len() - 7 < size {
-        return 0;
+    if !one_chunk(state, src, 7, room, size - 4) {
+        return None;
     }
-    if !stored_frame(state, src, staging, size) {
-        return 0;
-    }
-    if one_chunk(state, src, 7, room, size - 4) {
-        size + 7
-    } else {
-        0
-    }
+    Some(size + 7)
 }
 
 // A codec as the bytes of a state. What lies past them stays.
+#[tactic(auto, using(crate::proofs::StoreLaws::stored))]
 pub(crate) fn store(state: &mut [u8], codec: PacketCodec)
     requires { 48 ≤ length state.old }
     ensures { state.new ≡ keeping state.old codec }

@@ -5,8 +5,8 @@ ghost use Rattle.mishkeldur.specs.Streams.{shut, stream_of, holding, OpensStream
 use crate::NEED_MORE;
 use crate::state::put_count;
 use refusal::{Refusal, number_of};
-use stream::{Answer, Opened, Stream};
-use wire::inner::eight;
+use stream::Stream;
+use wire::inner::le;
 
 // How many bytes a stream's state is lent in.
 const STREAM_SIZE: usize = 64;
@@ -14,42 +14,35 @@ const STREAM_SIZE: usize = 64;
 // The first byte of a stream's state. The codec's is another, so that neither takes the other's for its own.
 const MARK: u8 = 0x53;
 
+#[tactic(auto, unfolding(crate::specs::Streams::shut))]
 fn is_shut(first: u8, closed: u8) -> bool
     ensures { result ≡ shut first closed }
 {
-    if first != MARK {
-        return true;
-    }
-    closed != 0
+    first != MARK || closed != 0
 }
 
 // What the bytes of a state mean.
+#[tactic(auto, using(crate::proofs::PassLaws::stream_loaded))]
 fn load(state: &[u8]) -> Stream
     requires { 32 ≤ length state.now }
     ensures { result ≡ stream_of state.now }
 {
-    let closed = is_shut(state[0], state[1]);
-    let number = state[2];
-    let full = state[3];
-    let got = state[4];
-    let first = state[5];
-    let second = state[6];
-    let third = state[7];
     Stream {
-        limit: eight(state, 8) as usize,
-        taken: eight(state, 16) as usize,
-        left: eight(state, 24) as usize,
-        got,
-        first,
-        second,
-        third,
-        number,
-        full: full == 1,
-        closed,
+        limit: le(state, 8, 8) as usize,
+        taken: le(state, 16, 8) as usize,
+        left: le(state, 24, 8) as usize,
+        got: state[4],
+        first: state[5],
+        second: state[6],
+        third: state[7],
+        number: state[2],
+        full: state[3] == 1,
+        closed: is_shut(state[0], state[1]),
     }
 }
 
 // A state as bytes. What lies past them stays.
+#[tactic(auto, using(crate::proofs::PassLaws::stream_stored))]
 fn store(state: &mut [u8], stream: Stream)
     requires { 32 ≤ length state.old }
     ensures { state.new ≡ holding state.old stream }
@@ -75,16 +68,12 @@ pub extern "C" fn mk_stream_open(state: &mut [u8], limit: usize) -> u8
     if state.len() < STREAM_SIZE {
         return number_of(Refusal::NoRoom);
     }
-    match stream::opening(limit) {
-        Opened::Open(stream) => {
-            store(state, stream);
-            0
-        }
-        Opened::Refused(r, stream) => {
-            store(state, stream);
-            number_of(r)
-        }
-    }
+    let (stream, status) = match stream::opening(limit) {
+        Ok(stream) => (stream, 0),
+        Err(shut) => (shut.state, number_of(shut.why)),
+    };
+    store(state, stream);
+    status
 }
 
 // The next chunk has this number.
@@ -124,18 +113,16 @@ pub extern "C" fn mk_stream_read(
         return number_of(Refusal::Closed);
     }
     let d = stream::pass(stream, src);
-    let answer = d.answer;
-    let next = d.next;
     *used = d.used;
-    store(state, next);
-    match answer {
-        Answer::NeedMore => NEED_MORE,
-        Answer::Part(at, n, last) => {
-            *place = at;
-            *len = n;
-            *ends = last as u8;
+    store(state, d.next);
+    match d.answer {
+        Ok(None) => NEED_MORE,
+        Ok(Some(p)) => {
+            *place = p.at;
+            *len = p.len;
+            *ends = p.ends as u8;
             0
         }
-        Answer::Refused(r) => number_of(r),
+        Err(r) => number_of(r),
     }
 }

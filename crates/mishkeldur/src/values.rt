@@ -9,15 +9,32 @@ ghost use Rattle.value.specs.Write.{value_bytes};
 ghost use Rattle.value.specs.declared.Value.TheVariants as Of;
 ghost use Rattle.row.specs.Nulls.{null_at, count_at};
 ghost use Rattle.row.specs.Row.{row_of, params_of};
+ghost use Rattle.refusal.specs.Said.{said_of};
 ghost use Rattle.mishkeldur.specs.Face.{status, holds, flag, flag_no, Puts};
 ghost use Rattle.mishkeldur.specs.Values.{kind_no, integer_of, bits_of, place_of, len_of, date_in, date_from, time_from, side_of};
 
-use crate::{flag, put_status};
-use duration::{Duration, ReadDuration, ReadTime, Time};
+use crate::{flag, give};
+use duration::Time;
 use refusal::{Refusal, number_of};
-use row::{ReadCount, ReadNull, ReadRow, Side};
-use value::{Date, ReadValue, Value};
-use wire::{ReadInt, ReadStr};
+use row::{Columns, Side};
+use value::{Date, Value};
+use wire::Parsed;
+
+// What a reader answered, as a status; the value and the place behind it go to lent numbers.
+fn give_parsed<T: Copy>(answer: Result<Parsed<T>, Refusal>, value: &mut T, next: &mut usize) -> u8
+    ensures { (result ≡ status (said_of answer))
+        × (value.new ≡ holds (said_of answer) (λ p. p.value) value.old)
+        × (next.new ≡ holds (said_of answer) (λ p. p.next) next.old) }
+{
+    match answer {
+        Ok(p) => {
+            *value = p.value;
+            *next = p.next;
+            0
+        }
+        Err(r) => number_of(r),
+    }
+}
 
 // ---- length-encoded integers and strings
 
@@ -28,14 +45,7 @@ pub extern "C" fn mk_lenenc_int(s: &[u8], at: usize, value: &mut u64, next: &mut
         × (value.new ≡ holds (len_at s.now at) (λ n. n.value) value.old)
         × (next.new ≡ holds (len_at s.now at) (λ n. n.next) next.old) }
 {
-    match wire::checked_eat_lenenc_int(s, at) {
-        ReadInt::Done(n) => {
-            *value = n.value;
-            *next = n.next;
-            0
-        }
-        ReadInt::Refused(r) => number_of(r),
-    }
+    give_parsed(wire::checked_eat_lenenc_int(s, at), value, next)
 }
 
 // The place and the length of the length-encoded string at a place. It ends at their sum.
@@ -46,12 +56,12 @@ pub extern "C" fn mk_lenenc_str(s: &[u8], at: usize, place: &mut usize, len: &mu
         × (len.new ≡ holds (str_at s.now at) (λ p. p.len) len.old) }
 {
     match wire::checked_eat_lenenc_str(s, at) {
-        ReadStr::Done(p) => {
+        Ok(p) => {
             *place = p.at;
             *len = p.len;
             0
         }
-        ReadStr::Refused(r) => number_of(r),
+        Err(r) => number_of(r),
     }
 }
 
@@ -68,7 +78,7 @@ pub extern "C" fn mk_lenenc_int_len(v: u64) -> usize
 pub extern "C" fn mk_put_lenenc_int(dst: &mut [u8], at: usize, v: u64, next: &mut usize) -> u8
     ensures { Puts (len_bytes v) dst.old at next.old result dst.new next.new }
 {
-    put_status(wire::put_lenenc_int(dst, at, v), next)
+    give(wire::put_lenenc_int(dst, at, v), next)
 }
 
 // The bytes behind their length.
@@ -77,7 +87,7 @@ pub extern "C" fn mk_put_lenenc_str(dst: &mut [u8], at: usize, src: &[u8], next:
     ensures { Puts (str_bytes src.now)
         dst.old at next.old result dst.new next.new }
 {
-    put_status(wire::put_lenenc_str(dst, at, src), next)
+    give(wire::put_lenenc_str(dst, at, src), next)
 }
 
 // ---- times and durations
@@ -96,26 +106,26 @@ pub extern "C" fn mk_read_time(
     next: &mut usize,
 ) -> u8
     ensures { (result ≡ status (time_at s.now at))
-        × (neg.new ≡ holds (time_at s.now at) (λ t. flag_no t.time.neg) neg.old)
-        × (days.new ≡ holds (time_at s.now at) (λ t. t.time.days) days.old)
-        × (hours.new ≡ holds (time_at s.now at) (λ t. t.time.hours) hours.old)
-        × (minutes.new ≡ holds (time_at s.now at) (λ t. t.time.minutes) minutes.old)
-        × (seconds.new ≡ holds (time_at s.now at) (λ t. t.time.seconds) seconds.old)
-        × (micros.new ≡ holds (time_at s.now at) (λ t. t.time.micros) micros.old)
+        × (neg.new ≡ holds (time_at s.now at) (λ t. flag_no t.value.neg) neg.old)
+        × (days.new ≡ holds (time_at s.now at) (λ t. t.value.days) days.old)
+        × (hours.new ≡ holds (time_at s.now at) (λ t. t.value.hours) hours.old)
+        × (minutes.new ≡ holds (time_at s.now at) (λ t. t.value.minutes) minutes.old)
+        × (seconds.new ≡ holds (time_at s.now at) (λ t. t.value.seconds) seconds.old)
+        × (micros.new ≡ holds (time_at s.now at) (λ t. t.value.micros) micros.old)
         × (next.new ≡ holds (time_at s.now at) (λ t. t.next) next.old) }
 {
     match duration::read_time(s, at) {
-        ReadTime::Done(t) => {
-            *neg = t.time.neg as u8;
-            *days = t.time.days;
-            *hours = t.time.hours;
-            *minutes = t.time.minutes;
-            *seconds = t.time.seconds;
-            *micros = t.time.micros;
+        Ok(t) => {
+            *neg = u8::from(t.value.neg);
+            *days = t.value.days;
+            *hours = t.value.hours;
+            *minutes = t.value.minutes;
+            *seconds = t.value.seconds;
+            *micros = t.value.micros;
             *next = t.next;
             0
         }
-        ReadTime::Refused(r) => number_of(r),
+        Err(r) => number_of(r),
     }
 }
 
@@ -123,18 +133,10 @@ pub extern "C" fn mk_read_time(
 #[unsafe(no_mangle)]
 pub extern "C" fn mk_read_duration(s: &[u8], at: usize, micros: &mut i64, next: &mut usize) -> u8
     ensures { (result ≡ status (duration_at s.now at))
-        × (micros.new ≡ holds (duration_at s.now at) (λ d. d.micros) micros.old)
+        × (micros.new ≡ holds (duration_at s.now at) (λ d. d.value) micros.old)
         × (next.new ≡ holds (duration_at s.now at) (λ d. d.next) next.old) }
 {
-    match duration::read_duration(s, at) {
-        ReadDuration::Done(d) => {
-            let z = d.micros;
-            *micros = z;
-            *next = d.next;
-            0
-        }
-        ReadDuration::Refused(r) => number_of(r),
-    }
+    give_parsed(duration::read_duration(s, at), micros, next)
 }
 
 // The signed microseconds of a TIME value's fields.
@@ -159,16 +161,26 @@ pub extern "C" fn mk_duration_of(
         seconds,
         micros,
     };
-    match duration::duration_of(t) {
-        Duration::Micros(z) => {
-            *out = z;
-            0
-        }
-        Duration::Refused(r) => number_of(r),
-    }
+    give(duration::duration_of(t), out)
 }
 
 // ---- values
+
+// A value's kind to C.
+fn kind_number(value: Value) -> u8
+    ensures { result ≡ kind_no value }
+{
+    match value {
+        Value::NULL => 0,
+        Value::Bytes { .. } => 1,
+        Value::Int(_) => 2,
+        Value::UInt(_) => 3,
+        Value::Float(_) | Value::NanFloat(_) => 4,
+        Value::Double(_) | Value::NanDouble(_) => 5,
+        Value::Date(_) => 6,
+        Value::Time(_) => 7,
+    }
+}
 
 // The binary value at a place, by its column: its kind, and in the other numbers what that kind has; those it has not
 // stay. NULL 0, a string 1, signed 2, unsigned 3, float 4, double 5, date 6, time 7.
@@ -196,63 +208,25 @@ pub extern "C" fn mk_read_value(
         × (len.new ≡ holds (bin_at s.now at column_type (flag is_unsigned)) (λ g. len_of g.value len.old) len.old)
         × (next.new ≡ holds (bin_at s.now at column_type (flag is_unsigned)) (λ g. g.next) next.old) }
 {
-    match value::deserialize_bin(s, at, column_type, flag(is_unsigned)) {
-        ReadValue::Done(g) => {
-            *next = g.next;
-            let v = g.value;
-            match v {
-                Value::NULL => {
-                    *kind = 0;
-                    0
-                }
-                Value::Bytes { at: from, len: n } => {
-                    *kind = 1;
-                    *place = from;
-                    *len = n;
-                    0
-                }
-                Value::Int(z) => {
-                    *kind = 2;
-                    *integer = z;
-                    0
-                }
-                Value::UInt(n) => {
-                    *kind = 3;
-                    *bits = n;
-                    0
-                }
-                Value::Float(x) => {
-                    *kind = 4;
-                    *bits = value::inner::single_bits(x) as u64;
-                    0
-                }
-                Value::NanFloat(n) => {
-                    *kind = 4;
-                    *bits = n as u64;
-                    0
-                }
-                Value::Double(x) => {
-                    *kind = 5;
-                    *bits = value::inner::double_bits(x);
-                    0
-                }
-                Value::NanDouble(n) => {
-                    *kind = 5;
-                    *bits = n;
-                    0
-                }
-                Value::Date(_) => {
-                    *kind = 6;
-                    0
-                }
-                Value::Time(_) => {
-                    *kind = 7;
-                    0
-                }
-            }
+    let got = match value::deserialize_bin(s, at, column_type, flag(is_unsigned)) {
+        Ok(got) => got,
+        Err(r) => return number_of(r),
+    };
+    *kind = kind_number(got.value);
+    *next = got.next;
+    match got.value {
+        Value::NULL | Value::Date(_) | Value::Time(_) => {}
+        Value::Bytes { at: from, len: n } => {
+            *place = from;
+            *len = n;
         }
-        ReadValue::Refused(r) => number_of(r),
+        Value::Int(z) => *integer = z,
+        Value::UInt(n) | Value::NanDouble(n) => *bits = n,
+        Value::Float(x) => *bits = u64::from(value::inner::single_bits(x)),
+        Value::NanFloat(n) => *bits = u64::from(n),
+        Value::Double(x) => *bits = value::inner::double_bits(x),
     }
+    0
 }
 
 // The text value at a place: kind 0 for NULL, or 1 and the place and the length of its bytes.
@@ -271,29 +245,21 @@ pub extern "C" fn mk_read_text(
         × (len.new ≡ holds (text_at s.now at) (λ g. len_of g.value len.old) len.old)
         × (next.new ≡ holds (text_at s.now at) (λ g. g.next) next.old) }
 {
-    match value::deserialize_text(s, at) {
-        ReadValue::Done(g) => {
-            *next = g.next;
-            let v = g.value;
-            match v {
-                Value::NULL => {
-                    *kind = 0;
-                    0
-                }
-                Value::Bytes { at: from, len: n } => {
-                    *kind = 1;
-                    *place = from;
-                    *len = n;
-                    0
-                }
-                _ => 0,
-            }
-        }
-        ReadValue::Refused(r) => number_of(r),
+    let got = match value::deserialize_text(s, at) {
+        Ok(got) => got,
+        Err(r) => return number_of(r),
+    };
+    *kind = kind_number(got.value);
+    *next = got.next;
+    if let Value::Bytes { at: from, len: n } = got.value {
+        *place = from;
+        *len = n;
     }
+    0
 }
 
 // The fields of the binary date at a place, and the place behind it.
+#[tactic(auto, using(crate::proofs::FaceLaws::date_given, crate::proofs::FaceLaws::date_refused))]
 #[unsafe(no_mangle)]
 pub extern "C" fn mk_read_date(
     s: &[u8],
@@ -317,26 +283,22 @@ pub extern "C" fn mk_read_date(
         × (micros.new ≡ holds (byte_str_at s.now at) (λ p. (date_in s.now p).micros) micros.old)
         × (next.new ≡ holds (byte_str_at s.now at) (λ p. p.at + p.len) next.old) }
 {
-    match value::deserialize_bin(s, at, 12, false) {
-        ReadValue::Done(g) => {
-            let v = g.value;
-            match v {
-                Value::Date(d) => {
-                    *year = d.year;
-                    *month = d.month;
-                    *day = d.day;
-                    *hour = d.hour;
-                    *minutes = d.minutes;
-                    *seconds = d.seconds;
-                    *micros = d.micros;
-                    *next = g.next;
-                    0
-                }
-                _ => number_of(Refusal::BadType),
-            }
-        }
-        ReadValue::Refused(r) => number_of(r),
-    }
+    let got = match value::deserialize_bin(s, at, 12, false) {
+        Ok(got) => got,
+        Err(r) => return number_of(r),
+    };
+    let Value::Date(date) = got.value else {
+        return number_of(Refusal::BadType);
+    };
+    *year = date.year;
+    *month = date.month;
+    *day = date.day;
+    *hour = date.hour;
+    *minutes = date.minutes;
+    *seconds = date.seconds;
+    *micros = date.micros;
+    *next = got.next;
+    0
 }
 
 // A signed number in eight bytes.
@@ -345,7 +307,7 @@ pub extern "C" fn mk_put_int(dst: &mut [u8], at: usize, v: i64, next: &mut usize
     ensures { Puts (value_bytes [] (Of.Int v))
         dst.old at next.old result dst.new next.new }
 {
-    put_status(value::serialize(dst, at, b"", Value::Int(v)), next)
+    give(value::serialize(dst, at, b"", Value::Int(v)), next)
 }
 
 // An unsigned number in eight bytes.
@@ -354,7 +316,7 @@ pub extern "C" fn mk_put_uint(dst: &mut [u8], at: usize, v: u64, next: &mut usiz
     ensures { Puts (value_bytes [] (Of.UInt v))
         dst.old at next.old result dst.new next.new }
 {
-    put_status(value::serialize(dst, at, b"", Value::UInt(v)), next)
+    give(value::serialize(dst, at, b"", Value::UInt(v)), next)
 }
 
 // A float by its bits.
@@ -362,7 +324,7 @@ pub extern "C" fn mk_put_uint(dst: &mut [u8], at: usize, v: u64, next: &mut usiz
 pub extern "C" fn mk_put_float(dst: &mut [u8], at: usize, bits: u32, next: &mut usize) -> u8
     ensures { Puts (le_bytes 4 bits) dst.old at next.old result dst.new next.new }
 {
-    put_status(wire::put_u32_le(dst, at, bits), next)
+    give(wire::put_u32_le(dst, at, bits), next)
 }
 
 // A double by its bits.
@@ -370,7 +332,7 @@ pub extern "C" fn mk_put_float(dst: &mut [u8], at: usize, bits: u32, next: &mut 
 pub extern "C" fn mk_put_double(dst: &mut [u8], at: usize, bits: u64, next: &mut usize) -> u8
     ensures { Puts (le_bytes 8 bits) dst.old at next.old result dst.new next.new }
 {
-    put_status(wire::put_u64_le(dst, at, bits), next)
+    give(wire::put_u64_le(dst, at, bits), next)
 }
 
 // A date in the document's shortest form.
@@ -399,7 +361,7 @@ pub extern "C" fn mk_put_date(
         seconds,
         micros,
     };
-    put_status(value::serialize(dst, at, b"", Value::Date(d)), next)
+    give(value::serialize(dst, at, b"", Value::Date(d)), next)
 }
 
 // A time in the document's shortest form.
@@ -426,10 +388,26 @@ pub extern "C" fn mk_put_time(
         seconds,
         micros,
     };
-    put_status(value::serialize(dst, at, b"", Value::Time(t)), next)
+    give(value::serialize(dst, at, b"", Value::Time(t)), next)
 }
 
 // ---- rows and parameter lists
+
+// What the reader of a row or of parameters answered, as a status; how many are NULL and how many bytes that took go to lent numbers.
+fn give_columns(answer: Result<Columns, Refusal>, nulls: &mut usize, used: &mut usize) -> u8
+    ensures { (result ≡ status (said_of answer))
+        × (nulls.new ≡ holds (said_of answer) (λ c. c.nulls) nulls.old)
+        × (used.new ≡ holds (said_of answer) (λ c. c.used) used.old) }
+{
+    match answer {
+        Ok(c) => {
+            *nulls = c.nulls;
+            *used = c.used;
+            0
+        }
+        Err(r) => number_of(r),
+    }
+}
 
 // A binary row: how many columns are NULL, how many bytes it takes, and in the list where each column starts.
 #[unsafe(no_mangle)]
@@ -448,14 +426,7 @@ pub extern "C" fn mk_read_row(
         × (used.new ≡ holds (row_of row.now types.now signs.now starts.old).said
         (λ c. c.used) used.old) }
 {
-    match row::read_row(row, types, signs, starts) {
-        ReadRow::Done(c) => {
-            *nulls = c.nulls;
-            *used = c.used;
-            0
-        }
-        ReadRow::Refused(r) => number_of(r),
-    }
+    give_columns(row::read_row(row, types, signs, starts), nulls, used)
 }
 
 // A parameter list, from its bitmap on: the same.
@@ -475,14 +446,7 @@ pub extern "C" fn mk_read_params(
         × (used.new ≡ holds (params_of list.now types.now signs.now starts.old).said
         (λ c. c.used) used.old) }
 {
-    match row::read_params(list, types, signs, starts) {
-        ReadRow::Done(c) => {
-            *nulls = c.nulls;
-            *used = c.used;
-            0
-        }
-        ReadRow::Refused(r) => number_of(r),
-    }
+    give_columns(row::read_params(list, types, signs, starts), nulls, used)
 }
 
 // Whose bitmap: a row's, or that of parameters.
@@ -502,13 +466,10 @@ pub extern "C" fn mk_null_bit(map: &[u8], is_params: u8, i: usize, is_null: &mut
     ensures { (result ≡ status (null_at map.now (side_of (flag is_params)) i))
         × (is_null.new ≡ holds (null_at map.now (side_of (flag is_params)) i) (λ b. flag_no b) is_null.old) }
 {
-    match row::null_bit(map, side_of(is_params), i) {
-        ReadNull::Done(b) => {
-            *is_null = b as u8;
-            0
-        }
-        ReadNull::Refused(r) => number_of(r),
-    }
+    give(
+        row::null_bit(map, side_of(is_params), i).map(u8::from),
+        is_null,
+    )
 }
 
 // How many of the first n columns are NULL by their bits.
@@ -517,11 +478,5 @@ pub extern "C" fn mk_null_count(map: &[u8], is_params: u8, n: usize, nulls: &mut
     ensures { (result ≡ status (count_at map.now (side_of (flag is_params)) n))
         × (nulls.new ≡ holds (count_at map.now (side_of (flag is_params)) n) (λ k. k) nulls.old) }
 {
-    match row::null_count(map, side_of(is_params), n) {
-        ReadCount::Done(k) => {
-            *nulls = k;
-            0
-        }
-        ReadCount::Refused(r) => number_of(r),
-    }
+    give(row::null_count(map, side_of(is_params), n), nulls)
 }

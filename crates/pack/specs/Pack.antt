@@ -1,13 +1,9 @@
 -- Rows packed into statements, by the request of that name: a planner and a judge. A row is its length, a proposal a list of numbers.
-use Rattle.std.specs.Prelude.{ℕ, ◌+◌, ◌-◌, ◌≤◌, ◌<◌, ◌≡◌, Bool, true, false, cond, not, ◌&&◌, ◌||◌, length, take, drop, leb, ltb}
+use Rattle.refusal.specs.declared.Refusal.{Refusal}
+use Rattle.std.specs.Prelude.{ℕ, ◌+◌, ◌-◌, ◌≤◌, ◌<◌, ◌≡◌, Bool, true, false, cond, not, ◌&&◌, ◌||◌, length, take, drop, leb, ltb, Result}
 use mathlib.Core.List.{List, [], ◌∷◌, flatten}
-use Rattle.refusal.specs.Number.{number}
-use Rattle.refusal.specs.Said.{Said, gives, refused, check}
+use Rattle.refusal.specs.Said.{Said, gives, refused, check, said_of}
 use Rattle.wire.specs.Room.{patch}
-use Rattle.pack.specs.declared.Judged.{Judged}
-use Rattle.pack.specs.declared.Judged.TheVariants as J
-use Rattle.pack.specs.declared.Planned.{Planned}
-use Rattle.pack.specs.declared.Planned.TheVariants as P
 
 -- "row lengths (u32, up to 8,192 of them)"
 abbrev pub most_rows : ℕ
@@ -60,11 +56,6 @@ accepts o limit at rows (e ∷ es) = grouped o limit at rows e && accepts o limi
 unfoldable pub judged : (o limit : ℕ) (rows proposal : List ℕ) → Said Bool
 judged o limit rows proposal = check (leb (length rows) most_rows) 17 (gives (accepts o limit 0 rows proposal))
 
-abbrev pub judged_said : Judged → Said Bool
-judged_said J.Accepted = gives true
-judged_said J.Rejected = gives false
-judged_said (J.Refused r) = refused (number r)
-
 -- ---- the planner
 
 -- a row joins the open group, which has `used` bytes and so far ends before row `at`, while it fits; else it begins the next
@@ -90,16 +81,12 @@ planned o limit rows d =
     (check (not (too_long o limit rows)) 16
     (check (leb (length (plan o limit rows)) (length d)) 6 (gives (length (plan o limit rows)))))
 
-abbrev pub planned_said : Planned → Said ℕ
-planned_said (P.Groups n) = gives n
-planned_said (P.Refused r) = refused (number r)
-
 -- the lent list then: the ends in its front, what lies past them as it was; "and then nothing is written"
 abbrev pub leaves : Said ℕ → (ends d : List ℕ) → List ℕ
 leaves (gives n) p d = patch d 0 p
 leaves (refused k) p d = d
 
 -- what a call of the planner answers and leaves
-pub record Plans (o limit : ℕ) (rows d : List ℕ) (r : Planned) (d' : List ℕ) : Type 0 where
-  pub said : planned_said r ≡ planned o limit rows d
+pub record Plans (o limit : ℕ) (rows d : List ℕ) (r : Result ℕ Refusal) (d' : List ℕ) : Type 0 where
+  pub said : said_of r ≡ planned o limit rows d
   pub left : d' ≡ leaves (planned o limit rows d) (plan o limit rows) d

@@ -1,5 +1,5 @@
 -- The planner's two walks, row by row: what is still to come, seen from any row on, gives the whole.
-use Rattle.std.specs.Prelude.{ℕ, ◌+◌, ◌≤◌, ◌<◌, ◌≡◌, Bool, true, false, cond, not, length, get_or, set, leb}
+use Rattle.std.specs.Prelude.{ℕ, ◌+◌, ◌≤◌, ◌<◌, ◌≡◌, Bool, true, false, cond, not, length, get_or, set, leb, Result, Ok, Err}
 use Rattle.std.proofs.Math.Nat.{zero-add}
 use Rattle.std.proofs.Common.{add-zero, add-one, ◌∙◌, take_all, drop-cons, le-leb, lt-ltb, le-ltb}
 use native.Mathlib.Omega.{arith}
@@ -8,13 +8,11 @@ use mathlib.Core.List.{List, [], ◌∷◌}
 use Rattle.std.proofs.Math.ListN.{drop, drop_of_length-le}
 use Rattle.std.proofs.Math.Seq.{sets, sets-eq}
 use Rattle.std.proofs.lemmas.Bool.{lt-leb}
-use Rattle.refusal.specs.Said.{Said, gives, refused, check, gives_same, gives_not_refused}
+use Rattle.refusal.specs.Said.{Said, gives, refused, check, gives_same, gives_not_refused, said_of}
 use Rattle.wire.specs.Room.{patch}
 use Rattle.refusal.specs.declared.Refusal.{Refusal}
 use Rattle.refusal.specs.declared.Refusal.TheVariants.{NoRoom, TooManyRows}
-use Rattle.pack.specs.declared.Planned.{Planned}
-use Rattle.pack.specs.declared.Planned.TheVariants as P
-use Rattle.pack.specs.Pack.{most_rows, plan_from, plan, too_long, planned, planned_said, leaves, Plans}
+use Rattle.pack.specs.Pack.{most_rows, plan_from, plan, too_long, planned, leaves, Plans}
 use Rattle.pack.specs.PackLaws.{whether}
 use Rattle.pack.specs.PlanLaws.{planned_many, planned_long, planned_full, planned_groups}
 
@@ -50,7 +48,7 @@ module _ (o limit : ℕ) where
       (λ j. simp (le-leb (used + 1 + r) limit j) (omega arith))
       (λ j. simp (lt-leb (used + 1 + r) limit j) (omega arith))
 
-  plan-some : (used at : ℕ) (rs : List ℕ) → 0 < length (plan_from o limit used at rs)
+  pub plan-some : (used at : ℕ) (rs : List ℕ) → 0 < length (plan_from o limit used at rs)
   unfolding plan_from
   plan-some used at [] = omega arith
   plan-some used at (r ∷ rs) =
@@ -157,7 +155,7 @@ module _ (o limit : ℕ) where
 
 module _ (o limit : ℕ) (rows d : List ℕ) where
   -- an answer, and the list that goes with it
-  plans : (r : Planned) (d' : List ℕ) (x : Said ℕ) → planned o limit rows d ≡ x → planned_said r ≡ x → d' ≡ leaves x (plan o limit rows) d
+  plans : (r : Result ℕ Refusal) (d' : List ℕ) (x : Said ℕ) → planned o limit rows d ≡ x → said_of r ≡ x → d' ≡ leaves x (plan o limit rows) d
       → Plans o limit rows d r d'
   plans r d' x e q p = record { said = q ∙ sym e; left = p ∙ ap (λ (y : Said ℕ). leaves y (plan o limit rows) d) (sym e) }
 
@@ -167,39 +165,39 @@ module _ (o limit : ℕ) (rows d : List ℕ) where
   groups_given : too_long o limit rows ≡ false → groups_of o limit rows ≡ gives (length (plan o limit rows))
   groups_given t = simp t
 
-  pub plans_many : most_rows < length rows → Plans o limit rows d (P.Refused TooManyRows) d
+  pub plans_many : most_rows < length rows → Plans o limit rows d (Err TooManyRows) d
   plans_many h = plans _ d (refused 17) (planned_many o limit rows d h) refl refl
 
   module _ (l : length rows ≤ most_rows) where
-    pub plans_none : length rows ≡ 0 → Plans o limit rows d (P.Groups 0) d
+    pub plans_none : length rows ≡ 0 → Plans o limit rows d (Ok 0) d
     unfolding plan too_long
     plans_none e =
         let z : rows ≡ [] = sym (take_all 0 rows (omega arith)) in
         plans _ d (gives 0)
         (rw z (planned_groups o limit [] d (omega arith) refl (omega arith))) refl (rw z)
 
-    module _ (r : Planned) (c : planned_said r ≡ groups_of o limit rows) where
+    module _ (r : Result ℕ Refusal) (c : said_of r ≡ groups_of o limit rows) where
       -- what the first walk tells
-      pub walk_groups : (n : ℕ) → r ≡ P.Groups n → (too_long o limit rows ≡ false) × (n ≡ length (plan o limit rows))
+      pub walk_groups : (n : ℕ) → r ≡ Ok n → (too_long o limit rows ≡ false) × (n ≡ length (plan o limit rows))
       walk_groups n e = by (too_long o limit rows) refl
         where
           by : (t : Bool) → too_long o limit rows ≡ t → (too_long o limit rows ≡ false) × (n ≡ length (plan o limit rows))
-          by true t = absurd (gives_not_refused (sym (ap planned_said e) ∙ c ∙ groups_refused t))
-          by false t = (t, gives_same (sym (ap planned_said e) ∙ c ∙ groups_given t))
+          by true t = absurd (gives_not_refused (sym (ap said_of e) ∙ c ∙ groups_refused t))
+          by false t = (t, gives_same (sym (ap said_of e) ∙ c ∙ groups_given t))
 
-      pub plans_full : (n : ℕ) → r ≡ P.Groups n → length d < n → Plans o limit rows d (P.Refused NoRoom) d
+      pub plans_full : (n : ℕ) → r ≡ Ok n → length d < n → Plans o limit rows d (Err NoRoom) d
       plans_full n e h =
           let w = walk_groups n e in
           plans _ d (refused 6) (planned_full o limit rows d l w.0 (omega (arith, w.1))) refl refl
 
-      pub plans_done : (n : ℕ) → r ≡ P.Groups n → n ≤ length d → (d' : List ℕ) → d' ≡ patch d 0 (plan o limit rows) → Plans o limit rows d (P.Groups n) d'
+      pub plans_done : (n : ℕ) → r ≡ Ok n → n ≤ length d → (d' : List ℕ) → d' ≡ patch d 0 (plan o limit rows) → Plans o limit rows d (Ok n) d'
       plans_done n e h d' p =
           let w = walk_groups n e in
           plans _ d' (gives (length (plan o limit rows))) (planned_groups o limit rows d l w.0 (omega (arith, w.1))) (ap gives w.1) p
 
-      pub plans_stop : (k : Refusal) → r ≡ P.Refused k → Plans o limit rows d (P.Refused k) d
+      pub plans_stop : (k : Refusal) → r ≡ Err k → Plans o limit rows d (Err k) d
       plans_stop k e = by (too_long o limit rows) refl
         where
-          by : (t : Bool) → too_long o limit rows ≡ t → Plans o limit rows d (P.Refused k) d
-          by true t = plans _ d (refused 16) (planned_long o limit rows d l t) (sym (ap planned_said e) ∙ c ∙ groups_refused t) refl
-          by false t = absurd (gives_not_refused (sym (groups_given t) ∙ sym c ∙ ap planned_said e))
+          by : (t : Bool) → too_long o limit rows ≡ t → Plans o limit rows d (Err k) d
+          by true t = plans _ d (refused 16) (planned_long o limit rows d l t) (sym (ap said_of e) ∙ c ∙ groups_refused t) refl
+          by false t = absurd (gives_not_refused (sym (groups_given t) ∙ sym c ∙ ap said_of e))

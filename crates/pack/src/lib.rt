@@ -5,221 +5,163 @@
 // after a group's last. The planner lets a row join the group while it fits, and no accepted proposal has fewer groups.
 #![tactic(auto)]
 
-ghost use Rattle.std.specs.Prelude.{◌≡◌, ◌+◌, ◌-◌, ◌≤◌, ◌<◌, cond, false, length, take, drop, set, leb};
+ghost use Rattle.refusal.specs.Said.{said_of};
+ghost use Rattle.std.specs.Prelude.{◌≡◌, ◌+◌, ◌≤◌, ◌<◌, false, length, drop, SomeIff};
 ghost use Rattle.wire.specs.Room.{patch};
-ghost use Rattle.pack.specs.Pack.{fits, grouped, accepts, judged, judged_said, plan, too_long, planned_said, Plans};
-ghost use Rattle.pack.specs.WalkLaws.{ended_by, used_with, groups_of};
+ghost use Rattle.pack.specs.Pack.{size, grouped, accepts, judged, plan, too_long, Plans};
+ghost use Rattle.pack.specs.WalkLaws.{groups_of};
 
 use refusal::Refusal;
 
 // The most rows that either of the two looks at.
 pub const MAX_ROWS: usize = 8192;
 
+// What every statement has before its rows, and how long it may be.
 #[derive(Clone, Copy)]
-pub enum Judged {
-    Accepted,
-    Rejected,
-    Refused(Refusal),
+struct Statement {
+    overhead: u64,
+    limit: u64,
 }
 
-// How many groups there are, or why there are none.
-#[derive(Clone, Copy)]
-pub enum Planned {
-    Groups(usize),
-    Refused(Refusal),
-}
-
-// ---- one row
-
-fn wide(r: u32) -> u64
-    ensures { result ≡ r }
-{
-    r as u64
-}
-
-// Whether a row fits into a statement of its own.
-fn begins(overhead: u64, limit: u64, r: u32) -> bool
-    ensures { result ≡ leb (overhead + r) limit }
-{
-    if limit < overhead {
-        return false;
+impl Statement {
+    // So many bytes and some more, where they fit.
+    fn within(self, used: u64, more: u64) -> Option<u64>
+        ensures { SomeIff result (used + more ≤ self.limit) (used + more) }
+    {
+        used.checked_add(more).filter(|bytes| *bytes <= self.limit)
     }
-    limit - overhead >= r as u64
-}
 
-// Whether a row fits into a group that has `used` bytes: a separator stands before it.
-fn joins(used: u64, limit: u64, r: u32) -> bool
-    requires { used ≤ limit }
-    ensures { result ≡ leb (used + 1 + r) limit }
-{
-    r as u64 + 1 <= limit - used
-}
-
-// ---- the judge
-
-// Whether the rows from one up to another fit into one statement.
-fn group_fits(rows: &[u32], from: usize, to: usize, overhead: u64, limit: u64) -> bool
-    requires { (from < to) × (to ≤ length rows.now) }
-    ensures { result ≡ fits overhead limit (take (to - from) (drop from rows.now)) }
-{
-    let first = rows[from];
-    if !begins(overhead, limit, first) {
-        return false;
+    // The bytes of a group of one row, if that fits into a statement.
+    fn opened(self, row: u32) -> Option<u64>
+        ensures { SomeIff result (self.overhead + row ≤ self.limit) (self.overhead + row) }
+    {
+        self.within(self.overhead, u64::from(row))
     }
-    let mut used = overhead + wide(first);
-    let mut i = from + 1;
-    while i < to {
-        let r = rows[i];
-        if !joins(used, limit, r) {
-            return false;
+
+    // The bytes of a group that a row joins, if it fits into it: a separator stands before it.
+    fn joined(self, used: u64, row: u32) -> Option<u64>
+        ensures { SomeIff result (used + 1 + row ≤ self.limit) (used + 1 + row) }
+    {
+        self.within(used, u64::from(row) + 1)
+    }
+
+    // ---- the judge
+
+    // The bytes of a group, if it has rows and they fit into one statement.
+    fn group_bytes(self, group: &[u32]) -> Option<u64>
+        ensures { SomeIff result ((0 < length group.now) × (size self.overhead group.now ≤ self.limit)) (size self.overhead group.now) }
+    {
+        let (first, others) = group.split_first()?;
+        let mut used = self.opened(*first)?;
+        for row in others {
+            used = self.joined(used, *row)?;
         }
-        used = used + 1 + wide(r);
-        i += 1;
+        Some(used)
     }
-    true
-}
 
-// Whether the next group, which begins with row `at` and is said to end before row `end`, is one.
-fn is_group(rows: &[u32], at: usize, end: u64, overhead: u64, limit: u64) -> bool
-    requires { at ≤ length rows.now }
-    ensures { result ≡ grouped overhead limit at (drop at rows.now) end }
-{
-    let to = end as usize;
-    if to <= at {
-        return false;
+    // Whether the next group, which begins with row `at` and is said to end before row `end`, is one.
+    #[tactic(auto, using(crate::proofs::Groups::group))]
+    fn is_group(self, rows: &[u32], at: usize, end: usize) -> bool
+        requires { at ≤ length rows.now }
+        ensures { result ≡ grouped self.overhead self.limit at (drop at rows.now) end }
+    {
+        rows.get(at..end)
+            .and_then(|group| self.group_bytes(group))
+            .is_some()
     }
-    if rows.len() < to {
-        return false;
-    }
-    group_fits(rows, at, to, overhead, limit)
-}
 
-// Whether a proposal's groups are groups, and have all the rows.
-fn is_accepted(rows: &[u32], overhead: u64, limit: u64, proposal: &[u64]) -> bool
-    ensures { result ≡ accepts overhead limit 0 rows.now proposal.now }
-{
-    let mut at = 0;
-    let mut i = 0;
-    while i < proposal.len() {
-        let end = proposal[i];
-        if !is_group(rows, at, end, overhead, limit) {
-            return false;
+    // Whether a proposal's groups are groups, and have all the rows.
+    #[tactic(auto, using(crate::proofs::Groups::proposal))]
+    fn accepts(self, rows: &[u32], proposal: &[u64]) -> bool
+        ensures { result ≡ accepts self.overhead self.limit 0 rows.now proposal.now }
+    {
+        let mut at = 0;
+        for end in proposal {
+            let end = *end as usize;
+            if !self.is_group(rows, at, end) {
+                return false;
+            }
+            at = end;
         }
-        at = end as usize;
-        i += 1;
+        at == rows.len()
     }
-    at == rows.len()
+
+    // ---- the planner
+
+    // The first walk: how many groups there are, or 16 for a row that fits into none.
+    #[tactic(auto, using(crate::proofs::Groups::first))]
+    fn count_groups(self, rows: &[u32]) -> Result<usize, Refusal>
+        requires { 0 < length rows.now }
+        ensures { said_of result ≡ groups_of self.overhead self.limit rows.now }
+    {
+        let mut used = self.opened(rows[0]).ok_or(Refusal::RowTooLong)?;
+        let mut ended = 0;
+        for row in &rows[1..] {
+            let alone = self.opened(*row).ok_or(Refusal::RowTooLong)?;
+            used = match self.joined(used, *row) {
+                Some(more) => more,
+                None => {
+                    ended += 1;
+                    alone
+                }
+            };
+        }
+        Ok(ended + 1)
+    }
+
+    // The second walk: each group's end, where there is room for all of them.
+    #[tactic(auto, using(crate::proofs::Groups::second))]
+    fn put_ends(self, rows: &[u32], ends: &mut [u64])
+        requires { (0 < length rows.now) × (too_long self.overhead self.limit rows.now ≡ false)
+            × (length (plan self.overhead self.limit rows.now) ≤ length ends.old) }
+        ensures { ends.new ≡ patch ends.old 0 (plan self.overhead self.limit rows.now) }
+    {
+        let mut used = self.overhead + u64::from(rows[0]);
+        let mut n = 0;
+        for i in 1..rows.len() {
+            used = match self.joined(used, rows[i]) {
+                Some(more) => more,
+                None => {
+                    ends[n] = i as u64;
+                    n += 1;
+                    self.overhead + u64::from(rows[i])
+                }
+            };
+        }
+        ends[n] = rows.len() as u64;
+    }
 }
+
+// ---- the entries
 
 // Whether every row is in exactly one group, no group is empty and every group fits; 17 for more than 8,192 rows.
-pub fn judge(rows: &[u32], overhead: u64, limit: u64, proposal: &[u64]) -> Judged
-    ensures { judged_said result ≡ judged overhead limit rows.now proposal.now }
+#[tactic(auto, unfolding(crate::specs::Pack::judged))]
+pub fn judge(rows: &[u32], overhead: u64, limit: u64, proposal: &[u64]) -> Result<bool, Refusal>
+    ensures { said_of result ≡ judged overhead limit rows.now proposal.now }
 {
     if MAX_ROWS < rows.len() {
-        return Judged::Refused(Refusal::TooManyRows);
+        return Err(Refusal::TooManyRows);
     }
-    if is_accepted(rows, overhead, limit, proposal) {
-        Judged::Accepted
-    } else {
-        Judged::Rejected
-    }
-}
-
-// ---- the planner
-
-// 1 where a row ends the open group, and 0 where it joins it.
-fn ends_group(used: u64, limit: u64, r: u32) -> usize
-    requires { used ≤ limit }
-    ensures { result ≡ ended_by limit used r }
-{
-    if joins(used, limit, r) { 0 } else { 1 }
-}
-
-// The bytes of the group that a row is in: of the open one, if it joins that, or of the next.
-fn used_with(used: u64, overhead: u64, limit: u64, r: u32) -> u64
-    requires { (used ≤ limit) × (overhead + r ≤ limit) }
-    ensures { result ≡ used_with overhead limit used r }
-{
-    if joins(used, limit, r) {
-        used + 1 + r as u64
-    } else {
-        overhead + r as u64
-    }
-}
-
-// The first walk: how many groups there are, or 16 for a row that fits into none.
-fn count_groups(rows: &[u32], overhead: u64, limit: u64) -> Planned
-    requires { 0 < length rows.now }
-    ensures { planned_said result ≡ groups_of overhead limit rows.now }
-{
-    let first = rows[0];
-    if !begins(overhead, limit, first) {
-        return Planned::Refused(Refusal::RowTooLong);
-    }
-    let mut used = overhead + wide(first);
-    let mut ended = 0;
-    let mut i = 1;
-    while i < rows.len() {
-        let r = rows[i];
-        if !begins(overhead, limit, r) {
-            return Planned::Refused(Refusal::RowTooLong);
-        }
-        ended += ends_group(used, limit, r);
-        used = used_with(used, overhead, limit, r);
-        i += 1;
-    }
-    Planned::Groups(ended + 1)
-}
-
-// Before a row that doesn't join the open group, that group's end; and how many are written then.
-fn put_end(ends: &mut [u64], n: usize, at: usize, joined: bool) -> usize
-    requires { n < length ends.old }
-    ensures { (result ≡ cond «joined» n (n + 1))
-        × (ends.new ≡ cond «joined» ends.old (set ends.old n at)) }
-{
-    if joined {
-        return n;
-    }
-    ends[n] = at as u64;
-    n + 1
-}
-
-// The second walk: each group's end, where there is room for all of them.
-fn put_ends(rows: &[u32], overhead: u64, limit: u64, ends: &mut [u64])
-    requires { (0 < length rows.now) × (too_long overhead limit rows.now ≡ false)
-        × (length (plan overhead limit rows.now) ≤ length ends.old) }
-    ensures { ends.new ≡ patch ends.old 0 (plan overhead limit rows.now) }
-{
-    let mut used = overhead + wide(rows[0]);
-    let mut n = 0;
-    let mut i = 1;
-    while i < rows.len() {
-        let r = rows[i];
-        n = put_end(ends, n, i, joins(used, limit, r));
-        used = used_with(used, overhead, limit, r);
-        i += 1;
-    }
-    ends[n] = rows.len() as u64;
+    let statement = Statement { overhead, limit };
+    Ok(statement.accepts(rows, proposal))
 }
 
 // Where to cut: each group's end in the front of the list, and how many there are; or 17, 16 or 6, and the list is as it was.
-pub fn plan(rows: &[u32], overhead: u64, limit: u64, ends: &mut [u64]) -> Planned
+#[tactic(auto, using(crate::proofs::Groups::planner))]
+pub fn plan(rows: &[u32], overhead: u64, limit: u64, ends: &mut [u64]) -> Result<usize, Refusal>
     ensures { Plans overhead limit rows.now ends.old result ends.new }
 {
     if MAX_ROWS < rows.len() {
-        return Planned::Refused(Refusal::TooManyRows);
+        return Err(Refusal::TooManyRows);
     }
-    if rows.len() == 0 {
-        return Planned::Groups(0);
+    if rows.is_empty() {
+        return Ok(0);
     }
-    match count_groups(rows, overhead, limit) {
-        Planned::Groups(n) => {
-            if ends.len() < n {
-                return Planned::Refused(Refusal::NoRoom);
-            }
-            put_ends(rows, overhead, limit, ends);
-            Planned::Groups(n)
-        }
-        Planned::Refused(r) => Planned::Refused(r),
+    let statement = Statement { overhead, limit };
+    let n = statement.count_groups(rows)?;
+    if ends.len() < n {
+        return Err(Refusal::NoRoom);
     }
+    statement.put_ends(rows, ends);
+    Ok(n)
 }

@@ -4,342 +4,269 @@
 // Whatever differs is printed by its name.
 #![tactic(auto)]
 
-use pack::{Judged, Planned};
-use refusal::number_of;
+ghost use Rattle.std.specs.Prelude.{◌≡◌, ◌<◌, ◌≤◌, length};
 
-const STDOUT_FILENO: i32 = 1;
+use pack::MAX_ROWS;
+use refusal::Refusal::{self, NoRoom, RowTooLong, TooManyRows};
+use std::alloc::{AllocError, Global};
+use std::fmt::Debug;
+use std::{array, io};
 
-// Two lists that are not drawn: every row of one byte, every row of 2^32 - 1.
-const ONES: usize = 100_001;
-
-const TALL: usize = 100_002;
-
-const TOP: u64 = 0xFFFF_FFFF_FFFF_FFFF;
+// How many rows the short lists have at most.
+const ROWS: usize = 12;
 
 // What a list holds before the planner is asked: no end comes near it.
 const MARK: u64 = 0x7654_3210_0000;
 
-// How many ways there are to cut a list of 0 to 12 rows.
-const CUTS: [usize; 13] = [1, 1, 2, 4, 8, 16, 32, 64, 128, 256, 512, 1024, 2048];
-
-// A count; none of ours comes near the end of its type.
-fn more(n: usize, by: usize) -> usize {
-    std::num::wrapping_add_usize(n, by)
+// An answer that is not the one that was due.
+fn expect<T: Copy + PartialEq + Debug>(
+    rt: &impl Print,
+    what: &str,
+    got: T,
+    due: T,
+) -> io::Result<()> {
+    if got == due {
+        return Ok(());
+    }
+    println!(rt; "differs: {what} {got:?}")
 }
 
-fn say(what: &[u8], n: usize) {
-    io::write_all(STDOUT_FILENO, what);
-    io::print_decimal(STDOUT_FILENO, n as u64);
-    io::write_all(STDOUT_FILENO, b"\n");
+// ---- a case
+
+// Rows, what every statement has before them, and how long it may be.
+#[derive(Clone, Copy)]
+struct Case<'a> {
+    rows: &'a [u32],
+    overhead: u64,
+    limit: u64,
 }
 
-// A number that is not the one that was due.
-fn expect(what: &[u8], got: usize, due: usize) {
-    if got != due {
-        io::write_all(STDOUT_FILENO, b"differs: ");
-        say(what, got);
+fn given(rows: &[u32], overhead: u64, limit: u64) -> Case<'_>
+    ensures { result.rows.now ≡ rows.now }
+{
+    Case {
+        rows,
+        overhead,
+        limit,
     }
 }
 
-// ---- lists of rows, each made out of its number by a small generator
-
-fn draw(s: usize, n: usize) -> usize {
-    let x = (s % 65_536 * 48_271 + n % 65_536 * 69_621 + 1) % 2_147_483_647;
-    (x % 65_536 * 32_768 + x / 65_536) % 2_147_483_647 * 48_271 % 2_147_483_647
-}
-
-fn row_of(s: usize, i: usize) -> u32 {
-    match s {
-        ONES => 1,
-        TALL => 0xFFFF_FFFF,
-        _ => (draw(s, more(i, 100)) / 64 % 13) as u32,
+impl<'a> Case<'a> {
+    fn judge(self, proposal: &[u64]) -> Result<bool, Refusal> {
+        pack::judge(self.rows, self.overhead, self.limit, proposal)
     }
-}
 
-fn fill(rows: &mut [u32], s: usize) {
-    let mut i = 0;
-    while i < rows.len() {
-        rows[i] = row_of(s, i);
-        i += 1;
+    fn plan(self, ends: &mut [u64]) -> Result<usize, Refusal> {
+        pack::plan(self.rows, self.overhead, self.limit, ends)
     }
-}
 
-fn front(rows: &[u32], n: usize) -> &[u32] {
-    if n < rows.len() {
-        return &rows[..n];
+    // How many groups the planner makes, with room for as many as there can be.
+    fn groups(self) -> Result<usize, Refusal> {
+        self.plan(&mut [MARK; MAX_ROWS])
     }
-    rows
-}
 
-// ---- the re-count: it adds a group up, and then looks
-
-fn bytes_of(rows: &[u32]) -> u64 {
-    let mut sum: u64 = 0;
-    let mut i = 0;
-    while i < rows.len() {
-        sum = std::num::wrapping_add_u64(sum, rows[i] as u64);
-        i += 1;
+    // What the judge says of the rows in one group, of 8,192 at the most.
+    fn whole(self) -> Result<bool, Refusal> {
+        self.judge(&[self.rows.len().min(MAX_ROWS) as u64])
     }
-    sum
-}
 
-fn group_right(rows: &[u32], from: usize, to: usize, overhead: u64, limit: u64) -> bool {
-    if to <= from {
-        return false;
-    }
-    if rows.len() < to {
-        return false;
-    }
-    let between = (to - from - 1) as u64;
-    let bytes = std::num::wrapping_add_u64(bytes_of(&rows[from..to]), between);
-    std::num::wrapping_add_u64(bytes, overhead) <= limit
-}
+    // ---- the re-count: it adds a group up, and then looks. No sum that it is asked for comes near the end of its type.
 
-fn recount(rows: &[u32], overhead: u64, limit: u64, proposal: &[u64]) -> bool {
-    let mut from = 0;
-    let mut k = 0;
-    while k < proposal.len() {
-        let to = proposal[k] as usize;
-        if !group_right(rows, from, to, overhead, limit) {
-            return false;
+    fn is_group(self, group: &[u32]) -> bool {
+        let between = group.len().saturating_sub(1) as u64;
+        let bytes = group
+            .iter()
+            .fold(between, |sum, row| sum.saturating_add(u64::from(*row)));
+        !group.is_empty() && bytes.saturating_add(self.overhead) <= self.limit
+    }
+
+    fn recount(self, proposal: &[u64]) -> bool {
+        let mut from = 0;
+        for end in proposal {
+            let to = *end as usize;
+            let group = self.rows.get(from..to);
+            if !group.is_some_and(|group| self.is_group(group)) {
+                return false;
+            }
+            from = to;
         }
-        from = to;
-        k += 1;
+        from == self.rows.len()
     }
-    from == rows.len()
-}
 
-// What the judge says, 1 or 0, or 100,000 and the refusal's number; and the planner, with the number of groups.
-fn judged(rows: &[u32], overhead: u64, limit: u64, proposal: &[u64]) -> usize {
-    match pack::judge(rows, overhead, limit, proposal) {
-        Judged::Accepted => 1,
-        Judged::Rejected => 0,
-        Judged::Refused(r) => 100_000 + number_of(r) as usize,
+    // Whether the re-count accepts a proposal. The judge must say the same.
+    fn accepts(self, rt: &impl Print, proposal: &[u64]) -> io::Result<bool> {
+        let right = self.recount(proposal);
+        expect(rt, "the judge", self.judge(proposal), Ok(right))?;
+        Ok(right)
     }
-}
 
-fn planned(rows: &[u32], overhead: u64, limit: u64, ends: &mut [u64]) -> usize {
-    match pack::plan(rows, overhead, limit, ends) {
-        Planned::Groups(n) => n,
-        Planned::Refused(r) => 100_000 + number_of(r) as usize,
-    }
-}
+    // ---- every way to cut
 
-// Whether the first k ends are accepted, by both.
-fn accepted(rows: &[u32], overhead: u64, limit: u64, ends: &[u64], k: usize) -> bool {
-    if ends.len() < k {
-        return false;
-    }
-    let proposal = &ends[..k];
-    let right = recount(rows, overhead, limit, proposal);
-    let said = judged(rows, overhead, limit, proposal);
-    expect(b"the judge ", said, right as usize);
-    right
-}
-
-// ---- every way to cut
-
-// A number at a place of the list, if it is to be put there and has room; and the place behind it.
-fn put(ends: &mut [u64], k: usize, e: usize, wanted: bool) -> usize {
-    if !wanted {
-        return k;
-    }
-    if ends.len() <= k {
-        return k;
-    }
-    ends[k] = e as u64;
-    k + 1
-}
-
-// The ends that a number's bits stand for: a group ends behind each row whose bit is set, and behind the last.
-fn cut(ends: &mut [u64], n: usize, bits: usize) -> usize {
-    let mut k = 0;
-    let mut left = bits;
-    let mut i = 0;
-    while i < n {
-        i += 1;
-        k = put(ends, k, i, left % 2 == 1 || i == n);
-        left = left / 2;
-    }
-    k
-}
-
-// The fewest groups of all accepted cuts; where there are none, what the planner says then: a row is too long.
-fn fewest(rows: &[u32], overhead: u64, limit: u64, ends: &mut [u64], cuts: usize) -> usize {
-    let mut least = 100_016;
-    let mut bits = 0;
-    while bits < cuts {
-        let k = cut(ends, rows.len(), bits);
-        if accepted(rows, overhead, limit, ends, k) && k < least {
-            least = k;
+    // The fewest groups of all accepted cuts. Each row has a bit, and that of the last is set, since it always ends a group.
+    fn fewest(self, rt: &(impl AllocGlobal + Print)) -> io::Result<Option<usize>>
+        requires { length self.rows.now ≤ 12 }
+    {
+        let mut least: Option<usize> = None;
+        let all = 1u64 << self.rows.len();
+        for bits in all / 2..all {
+            let ends = cut(rt.alloc(), bits)?;
+            if self.accepts(rt, &ends)? {
+                let n = ends.len();
+                least = Some(least.unwrap_or(n).min(n));
+            }
         }
-        bits += 1;
+        Ok(least)
     }
-    least
-}
 
-fn is_clear(ends: &[u64]) -> bool {
-    let mut i = 0;
-    while i < ends.len() {
-        let e = ends[i];
-        if e != MARK {
-            return false;
+    // A list that is one short for n groups gives 6, and is as it was.
+    fn one_short(self, rt: &(impl AllocGlobal + Print), n: usize) -> io::Result<()> {
+        let mut list = vec![in rt.alloc(); MARK; n]?;
+        if let Some((_, short)) = list.split_last_mut() {
+            let said = self.plan(short);
+            expect(rt, "a list one short", said, Err(NoRoom))?;
+            let kept = list.iter().all(|end| *end == MARK);
+            expect(rt, "its numbers", kept, true)?;
         }
-        i += 1;
+        Ok(())
     }
-    true
+
+    // Every cut, and the plan: how many groups that has. There is none where a row is too long.
+    fn try_cuts(self, rt: &(impl AllocGlobal + Print)) -> io::Result<usize>
+        requires { length self.rows.now ≤ 12 }
+    {
+        let least = self.fewest(rt)?.ok_or(RowTooLong);
+        let mut ends = [MARK; ROWS];
+        let planned = self.plan(&mut ends);
+        expect(rt, "the fewest groups", planned, least)?;
+        let Ok(n) = planned else {
+            return Ok(0);
+        };
+        let right = self.accepts(rt, ends.get(..n).unwrap_or_default())?;
+        expect(rt, "the plan", right, true)?;
+        self.one_short(rt, n)?;
+        Ok(n)
+    }
 }
 
-// A list that is one short for n groups gives 6, and is as it was.
-fn one_short(rows: &[u32], overhead: u64, limit: u64, list: &mut [u64], n: usize) {
-    if n == 0 {
-        return;
+// The ends that a number's bits stand for: a group ends behind each row whose bit is set.
+fn cut(alloc: Global, bits: u64) -> Result<Vec<u64>, AllocError> {
+    let mut ends = Vec::new(alloc);
+    for row in 0..ROWS as u64 {
+        if bits >> row & 1 == 1 {
+            ends.push(row + 1)?;
+        }
     }
-    if list.len() < n {
-        return;
-    }
-    let said = planned(rows, overhead, limit, &mut list[..n - 1]);
-    expect(b"a list one short ", said, 100_006);
-    expect(b"its numbers ", is_clear(list) as usize, 1);
+    Ok(ends)
 }
 
-// Every cut of a list, and its plan: how many groups that has.
-fn try_cuts(rows: &[u32], overhead: u64, limit: u64, ends: &mut [u64], cuts: usize) -> usize {
-    let least = fewest(rows, overhead, limit, ends, cuts);
-    let n = planned(rows, overhead, limit, ends);
-    expect(b"the fewest groups ", n, least);
-    if 100_000 < n {
-        return 0;
+// ---- short lists, each made out of its number by a small generator
+
+fn draw(s: u16, n: u16, sides: u16) -> u16
+    requires { 0 < sides }
+    ensures { result < sides }
+{
+    let x = (u64::from(s) * 48_271 + u64::from(n) * 69_621 + 1) % 2_147_483_647;
+    let y = (x % 65_536 * 32_768 + x / 65_536) % 2_147_483_647 * 48_271 % 2_147_483_647;
+    (y / 64 % u64::from(sides)) as u16
+}
+
+fn drawn_rows(s: u16) -> [u32; ROWS] {
+    array::from_fn(|i| u32::from(draw(s, 100 + i as u16, 13)))
+}
+
+fn drawn_case(rows: &[u32; ROWS], s: u16) -> Case<'_>
+    ensures { length result.rows.now ≤ 12 }
+{
+    let overhead = u64::from(draw(s, 1, 9));
+    let limit = 10 + u64::from(draw(s, 2, 40));
+    given(&rows[..usize::from(s % 13)], overhead, limit)
+}
+
+fn run_cuts(rt: &(impl AllocGlobal + Print)) -> io::Result<()> {
+    let mut groups = 0usize;
+    for s in 0..650 {
+        let rows = drawn_rows(s);
+        groups = groups.saturating_add(drawn_case(&rows, s).try_cuts(rt)?);
     }
-    let right = accepted(rows, overhead, limit, ends, n);
-    expect(b"the plan ", right as usize, 1);
-    one_short(rows, overhead, limit, &mut [MARK; 12], n);
-    n
+    println!(rt; "650 lists, all cuts of each: groups {groups}")
 }
 
 // ---- proposals that nobody would make
 
-fn odd_end(s: usize, k: usize, n: usize) -> usize {
-    match draw(s, more(k, 200)) / 64 % 8 {
+fn odd_end(s: u16, k: u8, rows: usize) -> u64 {
+    let k = u16::from(k);
+    match draw(s, k + 200, 8) {
         0 => 0,
-        1 => n,
-        2 => TOP as usize,
-        _ => more(k, draw(s, more(k, 300)) / 64 % 4),
+        1 => rows as u64,
+        2 => u64::MAX,
+        _ => u64::from(k + draw(s, k + 300, 4)),
     }
 }
 
-fn try_odd(s: usize, rows: &[u32], overhead: u64, limit: u64, ends: &mut [u64]) -> usize {
-    put(ends, 0, odd_end(s, 0, rows.len()), true);
-    put(ends, 1, odd_end(s, 1, rows.len()), true);
-    put(ends, 2, odd_end(s, 2, rows.len()), true);
-    accepted(rows, overhead, limit, ends, draw(s, 3) / 64 % 4) as usize
-}
-
-// A list by its number: all its cuts, or an odd proposal for it.
-fn try_list(s: usize, rows: &[u32], ends: &mut [u64], odd: bool) -> usize {
-    let overhead = (draw(s, 1) / 64 % 9) as u64;
-    let limit = (10 + draw(s, 2) / 64 % 40) as u64;
-    let n = s % 13;
-    if odd {
-        try_odd(s, front(rows, n), overhead, limit, ends)
-    } else {
-        try_cuts(front(rows, n), overhead, limit, ends, CUTS[n])
+fn run_odd(rt: &impl Print) -> io::Result<()> {
+    let mut accepted = 0usize;
+    for s in 0..4000 {
+        let rows = drawn_rows(s);
+        let case = drawn_case(&rows, s);
+        let ends = [0, 1, 2].map(|k| odd_end(s, k, case.rows.len()));
+        if case.accepts(rt, &ends[..usize::from(draw(s, 3, 4))])? {
+            accepted = accepted.saturating_add(1);
+        }
     }
-}
-
-fn try_lists(count: usize, rows: &mut [u32], ends: &mut [u64], odd: bool) -> usize {
-    let mut sum = 0;
-    let mut s = 0;
-    while s < count {
-        fill(rows, s);
-        sum = more(sum, try_list(s, rows, ends, odd));
-        s += 1;
-    }
-    sum
+    println!(rt; "4000 odd proposals: accepted {accepted}")
 }
 
 // ---- the edges
 
-fn groups(rows: &[u32], overhead: u64, limit: u64) -> usize {
-    planned(rows, overhead, limit, &mut [MARK; 8192])
-}
-
-// What the judge says of 8,192 rows in one group.
-fn whole(rows: &[u32], overhead: u64, limit: u64) -> usize {
-    judged(rows, overhead, limit, &[8192])
-}
-
-fn two_at_the_limit() {
-    expect(b"two rows at the limit ", groups(&[3, 4], 2, 10), 1);
-    expect(b"two rows one over ", groups(&[3, 4], 2, 9), 2);
-    expect(b"two rows judged ", judged(&[3, 4], 2, 10, &[2]), 1);
-    expect(b"two rows judged one over ", judged(&[3, 4], 2, 9, &[2]), 0);
-}
-
-fn one_at_the_limit() {
-    expect(b"a row at the limit ", groups(&[5], 2, 7), 1);
-    expect(b"a row one over ", groups(&[5], 2, 6), 100_016);
-}
-
-fn empty_at_the_limit() {
-    expect(b"empty rows at the limit ", groups(&[0, 0, 0], 0, 2), 1);
-    expect(b"empty rows one over ", groups(&[0, 0, 0], 0, 1), 2);
-    expect(b"empty rows and no room ", groups(&[0, 0, 0], 0, 0), 3);
-}
-
-// 8,193 rows of one byte each, and all but the last of them.
-fn many(rows: &[u32], most: &[u32]) {
-    expect(b"8,192 rows ", groups(most, 0, 16_383), 1);
-    expect(b"8,192 rows one over ", groups(most, 0, 16_382), 2);
-    expect(b"8,192 judged ", whole(most, 0, 16_383), 1);
-    expect(b"8,192 judged one over ", whole(most, 0, 16_382), 0);
-    expect(b"8,193 rows ", groups(rows, 0, TOP), 100_017);
-    expect(b"8,193 rows judged ", whole(rows, 0, TOP), 100_017);
-}
-
-// 8,192 rows of 2^32 - 1 bytes with the largest limit: together they take 2^45 - 1 bytes.
-fn tall(rows: &[u32]) {
+fn run_edges(rt: &(impl AllocGlobal + Print)) -> io::Result<()> {
+    // Rows of one byte each, and all but the last of them.
+    let ones = [1; MAX_ROWS + 1];
+    let most = &ones[..MAX_ROWS];
+    // With the largest limit these take 2^45 - 1 bytes together, and then there is room for one alone.
+    let tall = &[u32::MAX; MAX_ROWS];
     let exact = 0xFFFF_E000_0000_0000;
-    expect(b"tall rows ", groups(rows, 0, TOP), 1);
-    expect(b"tall rows exactly ", groups(rows, exact, TOP), 1);
-    expect(b"tall one over ", groups(rows, exact + 1, TOP), 2);
-    expect(b"tall rows judged ", whole(rows, exact, TOP), 1);
-    expect(b"tall judged over ", whole(rows, exact + 1, TOP), 0);
-}
-
-// The same rows where there is room for one alone, and then for none.
-fn lonely(rows: &[u32]) {
     let alone = 0xFFFF_FFFF_0000_0000;
-    expect(b"each alone ", groups(rows, alone, TOP), 8192);
-    expect(b"too long ", groups(rows, alone + 1, TOP), 100_016);
-    expect(b"no room at all ", groups(rows, TOP, TOP), 100_016);
-    expect(b"no room judged ", whole(rows, TOP, TOP), 0);
-    one_short(rows, alone, TOP, &mut [MARK; 8192], 8192);
+    let top = u64::MAX;
+    let planned = [
+        ("two rows at the limit", given(&[3, 4], 2, 10), Ok(1)),
+        ("two rows one over", given(&[3, 4], 2, 9), Ok(2)),
+        ("a row at the limit", given(&[5], 2, 7), Ok(1)),
+        ("a row one over", given(&[5], 2, 6), Err(RowTooLong)),
+        ("empty rows at the limit", given(&[0, 0, 0], 0, 2), Ok(1)),
+        ("empty rows one over", given(&[0, 0, 0], 0, 1), Ok(2)),
+        ("empty rows and no room", given(&[0, 0, 0], 0, 0), Ok(3)),
+        ("8,192 rows", given(most, 0, 16_383), Ok(1)),
+        ("8,192 rows one over", given(most, 0, 16_382), Ok(2)),
+        ("8,193 rows", given(&ones, 0, top), Err(TooManyRows)),
+        ("tall rows", given(tall, 0, top), Ok(1)),
+        ("tall rows exactly", given(tall, exact, top), Ok(1)),
+        ("tall one over", given(tall, exact + 1, top), Ok(2)),
+        ("each alone", given(tall, alone, top), Ok(8192)),
+        ("too long", given(tall, alone + 1, top), Err(RowTooLong)),
+        ("no room at all", given(tall, top, top), Err(RowTooLong)),
+    ];
+    let judged = [
+        ("two rows judged", given(&[3, 4], 2, 10), Ok(true)),
+        ("two judged one over", given(&[3, 4], 2, 9), Ok(false)),
+        ("8,192 judged", given(most, 0, 16_383), Ok(true)),
+        ("8,192 judged over", given(most, 0, 16_382), Ok(false)),
+        ("8,193 judged", given(&ones, 0, top), Err(TooManyRows)),
+        ("tall judged", given(tall, exact, top), Ok(true)),
+        ("tall judged over", given(tall, exact + 1, top), Ok(false)),
+        ("no room judged", given(tall, top, top), Ok(false)),
+    ];
+    for (what, case, due) in planned {
+        expect(rt, what, case.groups(), due)?;
+    }
+    for (what, case, due) in judged {
+        expect(rt, what, case.whole(), due)?;
+    }
+    given(tall, alone, top).one_short(rt, 8192)?;
+    println!(rt; "edges: {}", planned.len() + judged.len() + 1)
 }
 
-fn try_short() {
-    let mut few = [0u32; 12];
-    let mut ends = [0u64; 12];
-    let sum = try_lists(650, &mut few, &mut ends, false);
-    say(b"650 lists, all cuts of each: groups ", sum);
-    let yes = try_lists(4000, &mut few, &mut ends, true);
-    say(b"4000 odd proposals: accepted ", yes);
-}
-
-fn try_long() {
-    let mut rows = [0u32; 8193];
-    fill(&mut rows, ONES);
-    many(&rows, front(&rows, 8192));
-    fill(&mut rows, TALL);
-    tall(front(&rows, 8192));
-    lonely(front(&rows, 8192));
-}
-
-fn main() {
-    try_short();
-    two_at_the_limit();
-    one_at_the_limit();
-    empty_at_the_limit();
-    try_long();
-    say(b"edges: ", 25);
+fn main(rt: HostRuntime) -> io::Result<()> {
+    run_cuts(&rt)?;
+    run_odd(&rt)?;
+    run_edges(&rt)
 }

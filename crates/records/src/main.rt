@@ -5,275 +5,214 @@
 // host/data/records.py makes the files and says how an entry is laid out.
 #![tactic(auto)]
 
-use session::{ReadRecord, ReadVariable, SessionStateChange, Text};
+ghost use Rattle.std.specs.Prelude.{◌-◌, length};
+ghost use Rattle.std.specs.Iterator.{at_most};
+
+use session::SessionStateChange;
 use std::fs::File;
+use std::io;
+use std::rt::Files;
+use wire::Text;
 
-fn byte_at(s: &[u8], at: usize) -> u8 {
-    if at < s.len() { s[at] } else { 0 }
-}
-
-// A sum of places and lengths, which are small in the files.
-fn plus(a: usize, b: usize) -> usize {
-    if a < 0x1000_0000 {
-        if b < 0x1000_0000 {
-            return a + b;
-        }
-    }
-    a
-}
-
-fn word_at(s: &[u8], at: usize) -> usize {
-    byte_at(s, at) as usize + 256 * (byte_at(s, plus(at, 1)) as usize)
-}
-
-// The string whose length stands at a place, and the place behind it.
-fn string_at(s: &[u8], at: usize) -> &[u8] {
-    let n = word_at(s, at);
-    wire::part(s, plus(at, 2), n)
-}
-
-fn past(s: &[u8], at: usize) -> usize {
-    plus(plus(at, 2), word_at(s, at))
-}
-
-// Whether a part of the record is the string that stands at a place of the file; never where the type is not the right one.
-fn text_agrees(right: bool, body: &[u8], text: Text, s: &[u8], at: usize) -> bool {
-    if right {
-        check::same(wire::part(body, text.at, text.len), string_at(s, at))
-    } else {
-        false
-    }
-}
-
-fn tracked_agrees(right: bool, tracked: bool, s: &[u8], at: usize) -> bool {
-    if right {
-        if tracked {
-            check::same(string_at(s, at), b"1")
-        } else {
-            check::same(string_at(s, at), b"0")
-        }
-    } else {
-        false
-    }
-}
-
-fn change_agrees(change: SessionStateChange, kind: u8, body: &[u8], s: &[u8], at: usize) -> bool {
-    match change {
-        SessionStateChange::SystemVariables => kind == 0,
-        SessionStateChange::Schema(text) => text_agrees(kind == 1, body, text, s, at),
-        SessionStateChange::IsTracked(tracked) => tracked_agrees(kind == 2, tracked, s, at),
-        SessionStateChange::Gtids(text) => text_agrees(kind == 3, body, text, s, at),
-        SessionStateChange::TransactionCharacteristics(text) => text_agrees(
-            kind == 4,
-            body,
-            text,
-            s,
-            at,
-        ),
-        SessionStateChange::TransactionState(text) => text_agrees(kind == 5, body, text, s, at),
-        SessionStateChange::Unsupported(text) => text_agrees(5 < kind, body, text, s, at),
-    }
-}
-
-// The entry's fields.
-fn refusal_at(s: &[u8], entry: usize) -> u8 {
-    byte_at(s, plus(entry, 3))
-}
-
-fn used_at(s: &[u8], entry: usize) -> usize {
-    word_at(s, plus(entry, 4))
-}
-
-fn count_at(s: &[u8], entry: usize) -> usize {
-    byte_at(s, plus(entry, 6)) as usize
-}
-
-fn record_agrees(s: &[u8], entry: usize) -> bool {
-    let body = string_at(s, plus(entry, 7));
-    let kind = byte_at(s, entry);
-    match session::read_record(body, kind) {
-        ReadRecord::Done(record) => {
-            let change = record.change;
-            if refusal_at(s, entry) == 0 {
-                if record.used == used_at(s, entry) {
-                    return change_agrees(change, kind, body, s, past(s, plus(entry, 7)));
-                }
-            }
-            false
-        }
-        ReadRecord::Refused(r) => refusal::number_of(r) == refusal_at(s, entry),
-    }
-}
-
+// A place in a list. Behind the list's end stand zeros, and a string that passes it is empty.
 #[derive(Clone, Copy)]
-struct Turn {
-    agrees: bool,
-    cursor: usize,
-    expected: usize,
+struct Cursor<'a> {
+    list: &'a [u8],
+    at: usize,
 }
 
-// One call of the cursor, held to the name and the value that stand at a place of the file.
-fn pair_agrees(body: &[u8], cursor: usize, s: &[u8], expected: usize) -> Turn {
-    let value_at = past(s, expected);
-    match session::next_variable(body, cursor) {
-        ReadVariable::Pair(v) => {
-            let name = text_agrees(true, body, v.name, s, expected);
-            let value = text_agrees(true, body, v.value, s, value_at);
-            let agrees = if name { value } else { false };
-            Turn {
-                agrees,
-                cursor: v.next,
-                expected: past(s, value_at),
+impl<'a> Cursor<'a> {
+    fn byte(&mut self) -> u8 {
+        let b = files::byte_at(self.list, self.at);
+        self.at = self.at.saturating_add(1);
+        b
+    }
+
+    // A number in two bytes, low byte first.
+    fn half(&mut self) -> u16 {
+        u16::from_le_bytes([self.byte(), self.byte()])
+    }
+
+    // A string behind its length.
+    fn string(&mut self) -> &'a [u8] {
+        let n = usize::from(self.half());
+        let s = wire::part(self.list, self.at, n);
+        self.at = self.at.saturating_add(n);
+        s
+    }
+}
+
+// A record, and what is said of it.
+#[derive(Clone, Copy)]
+struct Entry<'a> {
+    at: usize,
+    kind: u8,
+    // Where the cursor over the variables starts.
+    start: usize,
+    // The number of the refusal, or 0.
+    refusal: u8,
+    // The bytes that the record takes, or where the cursor ends.
+    used: usize,
+    // How many strings there are, or pairs of them where the record is one of variables.
+    count: u8,
+    body: &'a [u8],
+    strings: Cursor<'a>,
+}
+
+impl<'a> Entry<'a> {
+    fn agrees(&self) -> bool {
+        if self.kind == 0 {
+            self.variables_agree()
+        } else {
+            self.record_agrees()
+        }
+    }
+
+    fn record_agrees(&self) -> bool {
+        match session::read_record(self.body, self.kind) {
+            Ok(record) => {
+                self.refusal == 0 && record.used == self.used && self.change_agrees(record.change)
             }
+            Err(r) => refusal::number_of(r) == self.refusal,
         }
-        ReadVariable::End => Turn {
-            agrees: false,
-            cursor,
-            expected,
-        },
-        ReadVariable::Refused(_) => Turn {
-            agrees: false,
-            cursor,
-            expected,
-        },
     }
-}
 
-// Whether the cursor has come to its end, or to the refusal that is expected.
-fn end_agrees(body: &[u8], cursor: usize, refusal: u8) -> bool {
-    match session::next_variable(body, cursor) {
-        ReadVariable::End => refusal == 0,
-        ReadVariable::Pair(_) => false,
-        ReadVariable::Refused(r) => refusal::number_of(r) == refusal,
-    }
-}
-
-fn variables_agree(s: &[u8], entry: usize) -> bool {
-    let body = string_at(s, plus(entry, 7));
-    let pairs = count_at(s, entry);
-    let mut cursor = word_at(s, plus(entry, 1));
-    let mut expected = past(s, plus(entry, 7));
-    let mut i = 0;
-    while i < pairs {
-        let turn = pair_agrees(body, cursor, s, expected);
-        if !turn.agrees {
-            return false;
+    // Whether the record says what the entry's string says, and is of the entry's type.
+    fn change_agrees(&self, change: SessionStateChange) -> bool {
+        let mut strings = self.strings;
+        let said = strings.string();
+        match (self.kind, change) {
+            (2, SessionStateChange::IsTracked(true)) => said == b"1".as_slice(),
+            (2, SessionStateChange::IsTracked(false)) => said == b"0".as_slice(),
+            (1, SessionStateChange::Schema(text))
+            | (3, SessionStateChange::Gtids(text))
+            | (4, SessionStateChange::TransactionCharacteristics(text))
+            | (5, SessionStateChange::TransactionState(text))
+            | (6.., SessionStateChange::Unsupported(text)) => self.part(text) == said,
+            _ => false,
         }
-        cursor = turn.cursor;
-        expected = turn.expected;
-        i += 1;
     }
-    if cursor == used_at(s, entry) {
-        end_agrees(body, cursor, refusal_at(s, entry))
-    } else {
-        false
-    }
-}
 
-fn agrees(s: &[u8], entry: usize) -> bool {
-    if byte_at(s, entry) == 0 {
-        variables_agree(s, entry)
-    } else {
-        record_agrees(s, entry)
-    }
-}
-
-// The place of the next entry.
-fn next_entry(s: &[u8], entry: usize) -> usize {
-    let mut strings = count_at(s, entry);
-    if byte_at(s, entry) == 0 {
-        strings = plus(strings, strings);
-    }
-    let mut at = past(s, plus(entry, 7));
-    while 0 < strings {
-        at = past(s, at);
-        strings -= 1;
-    }
-    at
-}
-
-fn report(entry: usize) {
-    io::write_all(1, b"differs: the entry at ");
-    io::print_decimal(1, entry as u64);
-    io::write_all(1, b"\n");
-}
-
-// Holds each entry to its answer; answers how many differ.
-fn differences(s: &[u8]) -> usize {
-    let mut n: usize = 0;
-    let mut entry = 0;
-    while entry < s.len() {
-        if !agrees(s, entry) {
-            report(entry);
-            n += 1;
-        }
-        let next = next_entry(s, entry);
-        if next <= entry {
-            return n;
-        }
-        entry = next;
-    }
-    n
-}
-
-// How many entries are of a type from `least` to `most`.
-fn count_of(s: &[u8], least: u8, most: u8) -> usize {
-    let mut n: usize = 0;
-    let mut entry = 0;
-    while entry < s.len() {
-        let kind = byte_at(s, entry);
-        if least <= kind {
-            if kind <= most {
-                n += 1;
+    // Whether the cursor hands out the entry's pairs, and then comes to its end or to the refusal.
+    fn variables_agree(&self) -> bool {
+        let mut strings = self.strings;
+        let mut at = self.start;
+        for _ in 0..self.count {
+            let Ok(Some(variable)) = session::next_variable(self.body, at) else {
+                return false;
+            };
+            if self.part(variable.name) != strings.string()
+                || self.part(variable.value) != strings.string()
+            {
+                return false;
             }
+            at = variable.next;
         }
-        let next = next_entry(s, entry);
-        if next <= entry {
-            return n;
-        }
-        entry = next;
+        at == self.used
+            && match session::next_variable(self.body, at) {
+                Ok(None) => self.refusal == 0,
+                Ok(Some(_)) => false,
+                Err(r) => refusal::number_of(r) == self.refusal,
+            }
     }
-    n
+
+    fn part(&self, text: Text) -> &'a [u8] {
+        wire::part(self.body, text.at, text.len)
+    }
 }
 
-fn line(name: &[u8], n: usize) {
-    io::write_all(1, name);
-    io::print_decimal(1, n as u64);
-    io::write_all(1, b"\n");
+// The entries from a place of a list to its end.
+#[derive(Clone, Copy)]
+struct Entries<'a>(Cursor<'a>);
+
+impl<'a> Entries<'a> {
+    fn of(list: &'a [u8]) -> Self {
+        Entries(Cursor { list, at: 0 })
+    }
 }
 
-fn say_session(s: &[u8]) {
-    line(b"  variables        ", count_of(s, 0, 0));
-    line(b"  schema           ", count_of(s, 1, 1));
-    line(b"  tracked          ", count_of(s, 2, 2));
-    line(b"  gtids            ", count_of(s, 3, 3));
+impl<'a> Iterator for Entries<'a> {
+    type Item = Entry<'a>;
+
+    ghost remaining = { λ s. at_most (length s.0.list.now - s.0.at) };
+
+    fn next(&mut self) -> Option<Entry<'a>> {
+        let mut cursor = self.0;
+        let at = cursor.at;
+        if at >= cursor.list.len() {
+            return None;
+        }
+        let kind = cursor.byte();
+        let start = usize::from(cursor.half());
+        let refusal = cursor.byte();
+        let used = usize::from(cursor.half());
+        let count = cursor.byte();
+        let body = cursor.string();
+        let strings = cursor;
+        let each = if kind == 0 { 2 } else { 1 };
+        for _ in 0..each * u16::from(count) {
+            cursor.string();
+        }
+        // The cursor stands behind the entry's first byte; said by `max`, that shows that the walk ends.
+        self.0.at = cursor.at.max(at + 1);
+        Some(Entry {
+            at,
+            kind,
+            start,
+            refusal,
+            used,
+            count,
+            body,
+            strings,
+        })
+    }
 }
 
-fn say_transactions(s: &[u8]) {
-    line(b"  characteristics  ", count_of(s, 4, 4));
-    line(b"  state            ", count_of(s, 5, 5));
+// The types that a line counts together, from the least to the greatest.
+const TYPES: [(&str, u8, u8); 7] = [
+    ("variables", 0, 0),
+    ("schema", 1, 1),
+    ("tracked", 2, 2),
+    ("gtids", 3, 3),
+    ("characteristics", 4, 4),
+    ("state", 5, 5),
+    ("unsupported", 6, 255),
+];
+
+fn line(rt: &impl Print, name: &str, n: usize) -> io::Result<()> {
+    println!(rt; "  {name:<17}{n}")
 }
 
-fn replay(s: &[u8]) {
-    say_session(s);
-    say_transactions(s);
-    line(b"  unsupported      ", count_of(s, 6, 255));
-    line(b"  differences      ", differences(s));
+fn replay(rt: &impl Print, list: &[u8]) -> io::Result<()> {
+    for (name, least, most) in TYPES {
+        let n = Entries::of(list)
+            .filter(|entry| (least..=most).contains(&entry.kind))
+            .count();
+        line(rt, name, n)?;
+    }
+    let mut differences: usize = 0;
+    for entry in Entries::of(list) {
+        if !entry.agrees() {
+            println!(rt; "differs: the entry at {}", entry.at)?;
+            differences = differences.saturating_add(1);
+        }
+    }
+    line(rt, "differences", differences)
 }
 
-fn replay_file(rt: &HostRuntime, path: &str) {
-    let mut buf = io::large_buffer();
+// Of a file that is longer than the buffer, or whose reading fails, what was read by then is replayed.
+fn replay_file(rt: &(impl Files + Print), path: &str) -> io::Result<()> {
     let Ok(mut input) = File::open(rt, path) else {
-        io::write_all(1, b"  no such file\n");
-        return;
+        return println!(rt; "  no such file");
     };
+    let mut buf = [0; 65536];
     let (n, _) = files::read_full(&mut input, &mut buf);
-    replay(wire::part(&buf, 0, n));
+    replay(rt, &buf[..n])
 }
 
-fn main(rt: HostRuntime) {
-    io::write_all(1, b"records of the captures\n");
-    replay_file(&rt, "records.bin");
-    io::write_all(1, b"records around the limits\n");
-    replay_file(&rt, "limits.bin");
+fn main(rt: HostRuntime) -> io::Result<()> {
+    println!(rt; "records of the captures")?;
+    replay_file(&rt, "records.bin")?;
+    println!(rt; "records around the limits")?;
+    replay_file(&rt, "limits.bin")
 }

@@ -7,65 +7,47 @@
 ghost use Rattle.std.specs.Prelude.{◌≡◌};
 ghost use Rattle.refusal.specs.Number.{number};
 
-#[derive(Clone, Copy)]
+#[derive(Clone, Copy, Debug, PartialEq, Eq)]
 pub enum Refusal {
     // opening with a limit of 0 or above 1,073,741,824
-    BadLimit,
+    BadLimit = 1,
     // a packet, a chunk or a frame header above the limit
-    TooLarge,
+    TooLarge = 2,
     // a complete chunk or frame has the wrong number
-    OutOfSync,
+    OutOfSync = 3,
     // frame length 0, plain length not 0
-    BadFrameHeader,
+    BadFrameHeader = 4,
     // both frame lengths not 0: a packed payload
-    Packed,
+    Packed = 5,
     // a lent buffer or list is too short
-    NoRoom,
+    NoRoom = 6,
     // the state is closed
-    Closed,
+    Closed = 7,
     // a value or record ends too early
-    Short,
+    Short = 8,
     // a length starts with 0xFB or 0xFF
-    BadLead,
+    BadLead = 9,
     // a column type that the document does not list
-    BadType,
+    BadType = 10,
     // a duration that no i64 holds
-    OutOfRange,
+    OutOfRange = 11,
     // a row's first byte is not 0
-    BadRow,
+    BadRow = 12,
     // 0 or more than 4,096 columns, or lists of unequal length
-    BadColumns,
+    BadColumns = 13,
     // a packet that is none of OK, ERR and EOF
-    BadPacket,
+    BadPacket = 14,
     // bytes that are no quoted literal
-    BadLiteral,
+    BadLiteral = 15,
     // a row that fits into no statement
-    RowTooLong,
+    RowTooLong = 16,
     // more than 8,192 rows
-    TooManyRows,
+    TooManyRows = 17,
 }
 
 // A refusal's number in the table.
 pub fn number_of(r: Refusal) -> u8
     ensures { result ≡ number r }
 {
-    match r {
-        Refusal::BadLimit => 1,
-        Refusal::TooLarge => 2,
-        Refusal::OutOfSync => 3,
-        Refusal::BadFrameHeader => 4,
-        Refusal::Packed => 5,
-        Refusal::NoRoom => 6,
-        Refusal::Closed => 7,
-        Refusal::Short => 8,
-        Refusal::BadLead => 9,
-        Refusal::BadType => 10,
-        Refusal::OutOfRange => 11,
-        Refusal::BadRow => 12,
-        Refusal::BadColumns => 13,
-        Refusal::BadPacket => 14,
-        Refusal::BadLiteral => 15,
-        Refusal::RowTooLong => 16,
-        Refusal::TooManyRows => 17,
-    }
+    r as u8
 }

@@ -1,18 +1,14 @@
 -- Laws of bits, over the width.
 use mathlib.Core.Path.{◌≡◌, refl, sym, ap, ◌∙◌}
-use mathlib.Core.Bool.{Bool}
 use mathlib.Core.List.{List}
-use Prim.Native.Nat.{ℕ, zero, suc, ◌+◌, ◌*◌, ◌/◌, ◌%◌, ◌≤◌, ◌<◌, ◌^◌, ◌-◌}
+use mathlib.Core.Logic.{◌⊎◌}
+use Prim.Native.Nat.{ℕ, zero, suc, ◌+◌, ◌*◌, ◌/◌, ◌%◌, ◌≤◌, ◌<◌, ◌^◌, ◌-◌, min}
 use native.Mathlib.Omega.{arith}
 use native.Mathlib.Nat.{add-zero, add-suc, add_comm, mod-lt, mod-one, one-mul}
-use borrow.Author.Tests.{lt-ltb, le-ltb, le-leb, lt-leb}
-use lib.ListN.{length, get_or}
-use lib.Dec.{eqb}
+use lib.ListN.{get_or}
 use lib.Pow.{pow_pos, shl_exact, shr-shr, mod-pow-add}
-use lib.Bits.{bit_and, and_high}
 use lib.Count.{ones, ones_cat, ones-le}
-use Rattle.refusal.specs.Said.{gives, refused}
-use Rattle.row.specs.Nulls.{offset_of, null_bit, null_count, map_size, null_at, count_at}
+use Rattle.row.specs.Nulls.{offset_of, null_bit, null_count, map_size}
 use Rattle.row.specs.declared.Side.{Side}
 use Rattle.row.specs.declared.Side.TheVariants.{ServerSide, ClientSide}
 
@@ -23,13 +19,6 @@ offset_few ClientSide = omega arith
 -- 1 << k at 32 bits
 pub one_shl : (k : ℕ) → k ≤ 8 → 1 * 2 ^ k % 2 ^ 32 ≡ 2 ^ k
 one_shl k h = shl_exact {a = 1} 1 k 32 (omega arith) (omega arith) ∙ one-mul (2 ^ k)
-
--- the bits that a mask of w ones from bit lo on leaves, counted
-pub ones_masked : (b lo w : ℕ) → ones (bit_and b (2 ^ (w + lo) - 2 ^ lo)) ≡ ones (b / 2 ^ lo % 2 ^ w)
-unfolding ones
-ones_masked b lo w =
-    let x = b / 2 ^ lo % 2 ^ w in
-    ap ones (and_high b w lo ∙ sym (add-zero (x * 2 ^ lo))) ∙ ones_cat lo x 0 (pow_pos lo) ∙ add-zero (ones x)
 
 ones_bit : (r : ℕ) → r < 2 → ones r ≡ r
 unfolding ones
@@ -64,25 +53,16 @@ turn map off d (suc w) h =
     let bit : null_bit map off (d + w) ≡ b / 2 ^ lo / 2 ^ w % 2 = one_bit map off d w same next in
     rw add-suc (omega (arith, turn map off d w (omega arith), bit, ones_more (b / 2 ^ lo) w))
 
+-- the columns before byte k are counted: those that byte k has, from bit low up to bit high
+pub count_turn : (map : List ℕ) (off n k low high : ℕ) → off ≤ 2 → k < map_size n off → ((k ≡ 0) × (low ≡ off)) ⊎ ((0 < k) × (low ≡ 0))
+    → high ≡ min (n + off - 8 * k) 8
+    → null_count map off (min (8 * (k + 1) - off) n) ≡ null_count map off (min (8 * k - off) n) + ones (get_or map k 0 / 2 ^ low % 2 ^ (high - low))
+count_turn map off n k low high few here from upto =
+    let d = min (8 * k - off) n in
+    let place : (d + off) / 8 ≡ k = omega arith in
+    let bit : (d + off) % 8 ≡ low = omega arith in
+    let next : min (8 * (k + 1) - off) n ≡ d + (high - low) = omega arith in
+    rw next (rw (place, bit) at (turn map off d (high - low) (omega arith)))
+
 pub ones_few : (x w : ℕ) → ones (x % 2 ^ w) ≤ w
 ones_few x w = ones-le w (x % 2 ^ w) (mod-lt x (pow_pos w))
-
--- ---- the answers of the two entries, from what their helpers say
-
-module _ (map : List ℕ) (side : Side) (off : ℕ) (is : off ≡ offset_of side) where
-  pub null_there : (i j : ℕ) (r : Bool) → j ≡ (i + off) / 8 → j < length map → r ≡ eqb (null_bit map off i) 1 → gives r ≡ null_at map side i
-  unfolding null_at
-  null_there i j r e h q = rw (← is, ← e) (simp (lt-ltb j (length map) h) (ap gives q))
-
-  pub null_short : (i j : ℕ) → j ≡ (i + off) / 8 → length map ≤ j → refused 8 ≡ null_at map side i
-  unfolding null_at
-  null_short i j e h = rw (← is, ← e) (simp (le-ltb j (length map) h))
-
-  module _ (n : ℕ) (some : n ≡ 0 → ⊥) (few : n ≤ 4096) where
-    pub count-short : length map < map_size n off → refused 8 ≡ count_at map side n
-    unfolding count_at
-    count-short h = rw (← is) (simp (lt-ltb 0 n (omega arith), le-leb n 4096 few, lt-leb (map_size n off) (length map) h))
-
-    pub count_there : (r : ℕ) → map_size n off ≤ length map → r ≡ null_count map off n → gives r ≡ count_at map side n
-    unfolding count_at
-    count_there r h q = rw (← is) (simp (lt-ltb 0 n (omega arith), le-leb n 4096 few, le-leb (map_size n off) (length map) h) (ap gives q))

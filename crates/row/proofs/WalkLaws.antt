@@ -1,34 +1,25 @@
 -- One column of a row, and those behind it.
+use Rattle.std.specs.Prelude.{Result, Ok, Err}
 use mathlib.Core.Path.{◌≡◌, refl, sym, ap, ◌∙◌}
-use mathlib.Core.Bool.{Bool, true, false, cond}
 use mathlib.Core.List.{List, [], ◌∷◌, ◌++◌}
 use Prim.Native.Nat.{ℕ, zero, suc, ◌+◌, ◌-◌, ◌*◌, ◌≤◌, ◌<◌}
 use native.Mathlib.Omega.{arith}
-use native.Mathlib.Nat.{add-zero, zero-add, sub-zero, mul-zero, mul-one}
+use native.Mathlib.Nat.{add-zero, zero-add, mul-zero, mul-one}
 use native.Mathlib.Decide.{ℕ_discrete}
 use native.Mathlib.Numerals.{add-one}
 use lib.ListN.{length, get_or, drop, set}
 use lib.Seq.{sets, sets-eq}
-use borrow.Author.Tests.{eq-eqb, ne_eqb, le-leb}
-use Rattle.refusal.specs.Said.{Said, gives, refused}
+use borrow.Author.Tests.{eq-eqb, ne_eqb, le-leb, lt-leb}
+use Rattle.refusal.specs.Said.{Said, gives, refused, said_of}
 use Rattle.refusal.specs.Number.{number}
 use Rattle.refusal.specs.declared.Refusal.{Refusal}
 use Rattle.wire.specs.LenEnc.{within}
 use Rattle.value.specs.Kinds.{kind_of}
-use Rattle.value.specs.Read.{skip_at, end_in, end_said}
+use Rattle.value.specs.Read.{skip_at, end_in}
 use Rattle.value.specs.Steps.{step_of, led_body, skip_fixed, skip_led}
-use Rattle.value.specs.declared.End.{End}
-use Rattle.value.specs.declared.End.TheVariants as E
 use Rattle.row.specs.Nulls.{null_bit}
 use Rattle.row.specs.Walk.{Walk, col_at, onward, walk, over, Passed}
 use Rattle.row.specs.RowLaws.{bit_few, col_within}
-
--- all of a step or nothing
-pub all_or_none : (step there : ℕ) → step ≤ 8 → there ≤ 1 → step * there ≤ 8
-all_or_none step there l h = elim (ℕ_discrete there 0) [
-  | yes z ↦ rw (z, mul-zero) (omega arith)
-  | no n ↦ let one : there ≡ 1 = omega (arith, n) in rw (one, mul-one) l
-]
 
 module _ (s map : List ℕ) (off : ℕ) (ts : List ℕ) where
   -- a column by its step, and by whether it has a value
@@ -44,7 +35,7 @@ module _ (s map : List ℕ) (off : ℕ) (ts : List ℕ) where
     pub col_led : (there ≡ 0 → ⊥) → 8 < step → (x : Said ℕ) → x ≡ end_in (led_body step s at) → x ≡ col_at s map off ts i at
     col_led n l x q = q ∙ sym (skip_led s at (get_or ts i 0) step e l) ∙ col_value n
 
-    pub col_fixed : at ≤ length s → step ≤ 8 → (x : Said ℕ) → x ≡ end_in (within s at (step * there)) → x ≡ col_at s map off ts i at
+    col_fixed : at ≤ length s → step ≤ 8 → (x : Said ℕ) → x ≡ end_in (within s at (step * there)) → x ≡ col_at s map off ts i at
     col_fixed w l x q = elim (ℕ_discrete there 0) [
       | yes z ↦
           let none : step * there ≡ 0 = rw (z, mul-zero) refl in
@@ -55,9 +46,15 @@ module _ (s map : List ℕ) (off : ℕ) (ts : List ℕ) where
           q ∙ ap (λ (k : ℕ). end_in (within s at k)) all ∙ sym (skip_fixed s at (get_or ts i 0) step e w l) ∙ col_value n
     ]
 
+    pub col_there : step ≤ 8 → at + step * there ≤ length s → gives (at + step * there) ≡ col_at s map off ts i at
+    col_there l f = col_fixed (omega arith) l _ (simp (le-leb (at + step * there) (length s) f))
+
+    pub col_short : at ≤ length s → step ≤ 8 → length s < at + step * there → refused 8 ≡ col_at s map off ts i at
+    col_short a l f = col_fixed a l _ (simp (lt-leb (at + step * there) (length s) f))
+
   -- a column that starts within the bytes ends within them
-  pub col_next : (i at m : ℕ) (r : End) → end_said r ≡ col_at s map off ts i at → r ≡ E.Next m → at ≤ length s → m ≤ length s
-  col_next i at m r e q w = col_within s map off ts i at m w (sym e ∙ ap end_said q)
+  pub col_next : (i at m : ℕ) (r : Result ℕ Refusal) → said_of r ≡ col_at s map off ts i at → r ≡ Ok m → at ≤ length s → m ≤ length s
+  col_next i at m r e q w = col_within s map off ts i at m w (sym e ∙ ap said_of q)
 
   -- no column is left
   pub walk_none : (i at n : ℕ) → n ≤ i → walk s map off ts i at (n - i) ≡ record { starts = []; ends = gives at }
@@ -85,60 +82,57 @@ module _ (s map : List ℕ) (off : ℕ) (ts : List ℕ) where
   starts_length i at zero = omega arith
   starts_length i at (suc n) = length_by at n (col_at s map off ts i at) (λ j. walk s map off ts (i + 1) j n) (λ j. starts_length (i + 1) j n)
 
--- what a pass will have done with the list when it ends: stores from column i on, if it is to write
-abbrev pub stores : Bool → List ℕ → ℕ → List ℕ → List ℕ
-stores write d i l = cond write (sets d i l) d
-
-pub stores_turn : (write : Bool) (d : List ℕ) (i at : ℕ) (l : List ℕ) → stores write (cond write (set d i at) d) (i + 1) l ≡ stores write d i (at ∷ l)
-stores_turn true d i at l = rw add-one
-stores_turn false d i at l = refl
-
-pub stores_none : (write : Bool) (d : List ℕ) (i : ℕ) → stores write d i [] ≡ d
-stores_none true d i = refl
-stores_none false d i = refl
-
-pub stores-over : (write : Bool) (l d : List ℕ) → length l ≤ length d → stores write d 0 l ≡ cond write (over l d) d
-stores-over true l d h = sets-eq l d 0 (rw zero-add h) ∙ ap (λ (k : ℕ). l ++ drop k d) (zero-add (length l))
-stores-over false l d h = refl
-
 -- ---- a pass: the rest of the walk from column i on, and the stores it still makes, give the whole
 
-module _ (s map : List ℕ) (off : ℕ) (ts : List ℕ) (from : ℕ) (write : Bool) (d₀ : List ℕ) where
+module _ (s map : List ℕ) (off : ℕ) (ts : List ℕ) (from : ℕ) where
   abbrev pub whole : Walk
   whole = walk s map off ts 0 from (length ts)
 
-  pub record Rest (d : List ℕ) (at i : ℕ) : Type 0 where
-    pub ends_so : (walk s map off ts i at (length ts - i)).ends ≡ whole.ends
-    pub list_so : stores write d i (walk s map off ts i at (length ts - i)).starts ≡ stores write d₀ 0 whole.starts
+  abbrev rest : (at i : ℕ) → Walk
+  rest at i = walk s map off ts i at (length ts - i)
 
-  pub rest_begins : Rest d₀ from 0
-  rest_begins = record { ends_so = rw sub-zero refl; list_so = rw sub-zero refl }
+  -- come to column i at a place, the walk still ends as the whole does
+  pub record Ending (at i : ℕ) : Type 0 where
+    pub ends_so : (rest at i).ends ≡ whole.ends
 
-  done_over : length ts ≤ length d₀ → stores write d₀ 0 whole.starts ≡ cond write (over whole.starts d₀) d₀
-  done_over h = stores-over write whole.starts d₀ (omega (arith, starts_length s map off ts 0 from (length ts), h))
+  -- and a list still gets the starts that the whole has
+  pub record Listing (d₀ d : List ℕ) (at i : ℕ) : Type 0 where
+    pub list_so : sets d i (rest at i).starts ≡ sets d₀ 0 whole.starts
 
-  module _ (d : List ℕ) (at i : ℕ) (q : Rest d at i) where
-    pub pass-ends : length ts ≤ length d₀ → length ts ≤ i → Passed whole write d₀ (E.Next at) d
-    pass-ends l h =
-        let w = walk_none s map off ts i at (length ts) h in record {
-          said = sym (ap (λ (x : Walk). x.ends) w) ∙ q.ends_so;
-          left = sym (stores_none write d i) ∙ sym (ap (λ (x : Walk). stores write d i x.starts) w) ∙ q.list_so ∙ done_over l;
+  all_over : (d : List ℕ) → length ts ≤ length d → sets d 0 whole.starts ≡ over whole.starts d
+  all_over d h =
+      sets-eq whole.starts d 0 (omega (arith, starts_length s map off ts 0 from (length ts)))
+      ∙ ap (λ (k : ℕ). whole.starts ++ drop k d) (zero-add (length whole.starts))
+
+  module _ (at i : ℕ) (q : Ending at i) where
+    pub pass-ends : length ts ≤ i → gives at ≡ whole.ends
+    pass-ends h = sym (ap (λ (x : Walk). x.ends) (walk_none s map off ts i at (length ts) h)) ∙ q.ends_so
+
+    pub pass-lists : length ts ≤ i → (d₀ d : List ℕ) → length ts ≤ length d₀ → Listing d₀ d at i → Passed whole d₀ (Ok at) d
+    pass-lists h d₀ d l p = record {
+      said = pass-ends h;
+      left = ap (λ (x : Walk). sets d i x.starts) (sym (walk_none s map off ts i at (length ts) h)) ∙ p.list_so ∙ all_over d₀ l;
+    }
+
+    module _ (h : i < length ts) (r : Result ℕ Refusal) (col : said_of r ≡ col_at s map off ts i at) where
+      turned : (m : ℕ) → r ≡ Ok m → rest at i ≡ (let w = rest m (i + 1) in record { starts = at ∷ w.starts; ends = w.ends })
+      turned m e = walk_turn s map off ts i at (length ts) h m (sym (ap said_of e) ∙ col)
+
+      stopped : (k : Refusal) → r ≡ Err k → rest at i ≡ record { starts = at ∷ []; ends = refused (number k) }
+      stopped k e = walk-stop s map off ts i at (length ts) h (number k) (sym (ap said_of e) ∙ col)
+
+      pub ending_turn : (m : ℕ) → r ≡ Ok m → Ending m (i + 1)
+      ending_turn m e = record { ends_so = sym (ap (λ (x : Walk). x.ends) (turned m e)) ∙ q.ends_so }
+
+      pub pass-stops : (k : Refusal) → r ≡ Err k → refused (number k) ≡ whole.ends
+      pass-stops k e = sym (ap (λ (x : Walk). x.ends) (stopped k e)) ∙ q.ends_so
+
+      module _ (d₀ d : List ℕ) (p : Listing d₀ d at i) where
+        pub listing_turn : (m : ℕ) → r ≡ Ok m → Listing d₀ (set d i at) m (i + 1)
+        listing_turn m e = record { list_so = (rw add-one refl) ∙ sym (ap (λ (x : Walk). sets d i x.starts) (turned m e)) ∙ p.list_so }
+
+        pub listing-stops : (k : Refusal) → length ts ≤ length d₀ → r ≡ Err k → Passed whole d₀ (Err k) (set d i at)
+        listing-stops k l e = record {
+          said = pass-stops k e;
+          left = sym (ap (λ (x : Walk). sets d i x.starts) (stopped k e)) ∙ p.list_so ∙ all_over d₀ l;
         }
-
-    module _ (h : i < length ts) (d' : List ℕ) (put : d' ≡ cond write (set d i at) d) (r : End) (col : end_said r ≡ col_at s map off ts i at) where
-      pub pass_turn : (m : ℕ) → r ≡ E.Next m → Rest d' m (i + 1)
-      pass_turn m e =
-          let w = walk_turn s map off ts i at (length ts) h m (sym (ap end_said e) ∙ col) in
-          let l = (walk s map off ts (i + 1) m (length ts - (i + 1))).starts in record {
-            ends_so = sym (ap (λ (x : Walk). x.ends) w) ∙ q.ends_so;
-            list_so = ap (λ (x : List ℕ). stores write x (i + 1) l) put ∙ stores_turn write d i at l ∙ sym
-                (ap (λ (x : Walk). stores write d i x.starts) w) ∙ q.list_so;
-          }
-
-      pub pass-stops : length ts ≤ length d₀ → (k : Refusal) → r ≡ E.Refused k → Passed whole write d₀ (E.Refused k) d'
-      pass-stops l k e =
-          let w = walk-stop s map off ts i at (length ts) h (number k) (sym (ap end_said e) ∙ col) in record {
-            said = sym (ap (λ (x : Walk). x.ends) w) ∙ q.ends_so;
-            left = put ∙ sym (stores_none write (cond write (set d i at) d) (i + 1)) ∙ stores_turn write d i at [] ∙ sym
-                (ap (λ (x : Walk). stores write d i x.starts) w) ∙ q.list_so ∙ done_over l;
-          }

@@ -1,13 +1,8 @@
 -- The NULL bitmap of a binary row (offset 2) or of a parameter list (offset 0), by 01's "Values".
 use Rattle.std.specs.Prelude.{ℕ, zero, suc, ◌+◌, ◌/◌, ◌%◌, ◌^◌, Bool, List, length, get_or, leb, ltb, eqb}
-use Rattle.refusal.specs.Number.{number}
-use Rattle.refusal.specs.Said.{Said, gives, refused, check}
+use Rattle.refusal.specs.Said.{Said, gives, check}
 use Rattle.row.specs.declared.Side.{Side}
 use Rattle.row.specs.declared.Side.TheVariants.{ServerSide, ClientSide}
-use Rattle.row.specs.declared.ReadNull.{ReadNull}
-use Rattle.row.specs.declared.ReadNull.TheVariants as B
-use Rattle.row.specs.declared.ReadCount.{ReadCount}
-use Rattle.row.specs.declared.ReadCount.TheVariants as C
 
 -- `BIT_OFFSET`: rows come from the server, parameters from the client
 abbrev pub offset_of : Side → ℕ
@@ -42,11 +37,3 @@ count_at map side n =
     check (ltb 0 n) 13
     (check (leb n 4096) 13
     (check (leb (map_size n (offset_of side)) (length map)) 8 (gives (null_count map (offset_of side) n))))
-
-abbrev pub null_said : ReadNull → Said Bool
-null_said (B.Done b) = gives b
-null_said (B.Refused r) = refused (number r)
-
-abbrev pub count_said : ReadCount → Said ℕ
-count_said (C.Done n) = gives n
-count_said (C.Refused r) = refused (number r)

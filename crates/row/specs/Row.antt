@@ -1,12 +1,10 @@
 -- Binary rows and parameter lists, by 01's "Values". s the bytes, ts the types, us the signs, d the lent list of starts.
-use Rattle.std.specs.Prelude.{ℕ, ◌+◌, ◌≡◌, cond, List, length, get_or, take, drop, leb, ltb, eqb}
-use Rattle.refusal.specs.Number.{number}
-use Rattle.refusal.specs.Said.{Said, gives, refused}
+use Rattle.refusal.specs.declared.Refusal.{Refusal}
+use Rattle.std.specs.Prelude.{ℕ, ◌+◌, ◌≡◌, cond, List, length, get_or, take, drop, leb, ltb, eqb, Result}
+use Rattle.refusal.specs.Said.{Said, gives, refused, said_of}
 use Rattle.row.specs.Nulls.{null_count, map_size}
 use Rattle.row.specs.Walk.{walk, over}
 use Rattle.row.specs.declared.Columns.{Columns}
-use Rattle.row.specs.declared.ReadRow.{ReadRow}
-use Rattle.row.specs.declared.ReadRow.TheVariants as R
 
 -- the answer: "the NULL count and bytes used". The one place that makes it
 abbrev pub columns_of : ℕ → ℕ → Columns
@@ -57,11 +55,7 @@ row_of s ts us d =
 unfoldable pub params_of : (s ts us d : List ℕ) → RowEnd
 params_of s ts us d = listed ts us d (values_of s 0 0 ts d)
 
-abbrev pub row_said : ReadRow → Said Columns
-row_said (R.Done c) = gives c
-row_said (R.Refused r) = refused (number r)
-
 -- what a call answers and leaves
-pub record Rowed (e : RowEnd) (r : ReadRow) (d : List ℕ) : Type 0 where
-  pub said : row_said r ≡ e.said
+pub record Rowed (e : RowEnd) (r : Result Columns Refusal) (d : List ℕ) : Type 0 where
+  pub said : said_of r ≡ e.said
   pub left : d ≡ e.starts

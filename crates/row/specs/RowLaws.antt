@@ -1,18 +1,17 @@
 -- What holds of every row and parameter list, read or refused. A host may lean on these and on nothing of the code.
-use Rattle.std.specs.Prelude.{◌≡◌, Bool, true, false, cond, List, [], ◌∷◌, ◌++◌, length, get_or, take, drop, leb, ltb, eqb}
+use Rattle.wire.specs.declared.Text.{Text}
+use Rattle.wire.specs.declared.Parsed.{Parsed}
+use Rattle.std.specs.Prelude.{◌≡◌, Bool, true, false, cond, List, [], ◌∷◌, ◌++◌, length, get_or, take, drop, leb, ltb, eqb, Option, Some, None}
 use Rattle.std.proofs.Math.Path.{refl}
 use Rattle.std.proofs.Common.{sym, ap, ◌∙◌, arith, add-zero, zero-add, eq-eqb, ne_eqb, leb-true, take_at, drop_at}
 use Prim.Native.Nat.{ℕ, zero, suc, ◌+◌, ◌≤◌, ◌<◌}
 use Rattle.std.proofs.Math.ListN.{get_or-append}
 use Rattle.refusal.specs.Said.{Said, gives, refused, and_then, gives_same, gives_not_refused}
-use Rattle.wire.specs.LenEncLaws.{within-fits, str_within, byte_str_within}
-use Rattle.wire.specs.declared.LenEncStr.{LenEncStr}
 use Rattle.value.specs.Kinds.{kind_of}
-use Rattle.value.specs.Read.{body_of, end_in, skip_at, bin_at}
-use Rattle.value.specs.ValueLaws.{next_skip}
-use Rattle.value.specs.declared.GotValue.{GotValue}
+use Rattle.value.specs.Read.{body_of, end_in, typed, skip_at, bin_at}
+use Rattle.value.specs.ValueLaws.{body_end, next_skip}
+use Rattle.value.specs.declared.Value.{Value}
 use Rattle.value.specs.declared.Kind.{Kind}
-use Rattle.value.specs.declared.Kind.TheVariants as K
 use Rattle.row.specs.Nulls.{null_bit, null_count, map_size}
 use Rattle.row.specs.Walk.{Walk, col_at, onward, walk, over}
 use Rattle.row.specs.Row.{RowEnd, columns_of, stopped, ended, values_of, listed, row_of, params_of}
@@ -29,7 +28,7 @@ abbrev pub edges : List ℕ → ℕ → ℕ → List ℕ
 edges starts used n = take n starts ++ used ∷ []
 
 -- the place behind a value
-abbrev pub next_of : Said GotValue → Said ℕ
+abbrev pub next_of : Said (Parsed Value) → Said ℕ
 next_of v = and_then v (λ g. gives g.next)
 
 -- ---- one bit, and the count
@@ -46,28 +45,17 @@ count_few map off (suc n) = omega (arith, count_few map off n, bit_few map off n
 -- ---- one value: its reader goes on to where the walk goes on to, whatever the sign
 
 -- a value that starts within the bytes ends within them
-body-within : (k : Kind) (s : List ℕ) (at : ℕ) (p : LenEncStr) → at ≤ length s → body_of k s at ≡ gives p → p.at + p.len ≤ length s
-body-within K.Str s at p h e = str_within s at p e
-body-within K.One s at p h e = within-fits s at 1 p e
-body-within K.Two s at p h e = within-fits s at 2 p e
-body-within K.Four s at p h e = within-fits s at 4 p e
-body-within K.Eight s at p h e = within-fits s at 8 p e
-body-within K.Single s at p h e = within-fits s at 4 p e
-body-within K.Wide s at p h e = within-fits s at 8 p e
-body-within K.Nil s at p h e =
-    let q : record { at = at; len = 0 } ≡ p = gives_same e in
-    rw (← q, add-zero) h
-body-within K.Day s at p h e = byte_str_within s at p e
-body-within K.Clock s at p h e = byte_str_within s at p e
-body-within K.Bad s at p h e = absurd (gives_not_refused (sym e))
-
-end_within : (s : List ℕ) (m : ℕ) (body : Said LenEncStr) → ((p : LenEncStr) → body ≡ gives p → p.at + p.len ≤ length s) → end_in body ≡ gives m → m ≤ length s
-end_within s m (gives p) f e = rw (← gives_same e) (f p refl)
-end_within s m (refused k) f e = absurd (gives_not_refused (sym e))
-
 pub skip_within : (s : List ℕ) (at t m : ℕ) → at ≤ length s → skip_at s at t ≡ gives m → m ≤ length s
 unfolding skip_at
-skip_within s at t m h e = end_within s m (body_of (kind_of t) s at) (λ p. body-within (kind_of t) s at p h) e
+skip_within s at t m h e = by_kind (kind_of t) e
+  where
+    by_body : (k : Kind) (b : Said Text) → body_of k s at ≡ b → end_in b ≡ gives m → m ≤ length s
+    by_body k (gives p) q e = omega (arith, h, body_end k s at p q, gives_same e)
+    by_body k (refused n) q e = absurd (gives_not_refused (sym e))
+
+    by_kind : (o : Option Kind) → typed o (λ k. end_in (body_of k s at)) ≡ gives m → m ≤ length s
+    by_kind (Some k) e = by_body k (body_of k s at) refl e
+    by_kind None e = absurd (gives_not_refused (sym e))
 
 -- ---- a walk that ends: each column goes on to the next one's start
 

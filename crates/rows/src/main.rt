@@ -2,431 +2,290 @@
 // (host/data/rows.py, which also says how the file is laid out), and each row cut at every length.
 #![tactic(auto)]
 
-ghost use Rattle.std.specs.Prelude.{◌<◌, ◌≤◌};
-
 use duration::Time;
-use row::{ReadNull, ReadRow, Side};
+use files::{half_at, long_at, word_at};
+use refusal::Refusal;
+use row::{Columns, Side};
 use std::fs::File;
-use value::{Date, ReadValue, Value};
-use wire::ReadNum;
+use std::io;
+use std::io::Read;
+use std::rt::Files;
+use value::{Date, Value};
+use wire::part;
 
-const STDOUT_FILENO: i32 = 1;
+// How many bytes of the list are read: what a longer file has behind them is not.
+const LIST: u64 = 65_536;
 
-// What the list holds before each call: no start comes near it.
+// Four places more than a row has columns: they must stay.
+const PLACES: usize = 40;
+
+// What the list of starts holds before each call: no start comes near it.
 const MARK: usize = 0x7654_3210;
 
-// What is counted: values by the tags 0 to 8, and these.
-const ROWS: usize = 9;
+const UNTOUCHED: [usize; PLACES] = [MARK; PLACES];
 
-const COLUMNS: usize = 10;
+// The values that are counted, each at its tag.
+const TAGS: [&str; 9] = [
+    "NULL",
+    "integers from 0 on",
+    "integers below 0",
+    "unsigned integers above any i64",
+    "strings",
+    "f32",
+    "f64",
+    "dates",
+    "times",
+];
 
-const CUTS: usize = 11;
-
-const DIFFERENCES: usize = 12;
-
-// A word of the file: two bytes, low first.
-fn word(file: &[u8], at: usize) -> usize
-    ensures { result < 65536 }
-{
-    match wire::checked_eat_u16_le(file, at) {
-        ReadNum::Done(n) => (n.value % 0x1_0000) as usize,
-        ReadNum::Refused(_) => 0,
-    }
+// The front of a file, as many bytes as are asked for.
+fn read_front(rt: &(impl Files + AllocGlobal), name: &str, most: u64) -> io::Result<Vec<u8>> {
+    let mut bytes = Vec::new(rt.alloc());
+    File::open(rt, name)?.take(most).read_to_end(&mut bytes)?;
+    Ok(bytes)
 }
 
-fn say(what: &[u8], n: usize) {
-    io::write_all(STDOUT_FILENO, what);
-    io::print_decimal(STDOUT_FILENO, n as u64);
+// The bytes from a place on; none where it is past the end.
+fn tail(bytes: &[u8], at: usize) -> &[u8] {
+    bytes.get(at..).unwrap_or_default()
 }
 
-fn count(counts: &mut [usize], i: usize) {
-    if i < counts.len() {
-        let c = counts[i];
-        counts[i] = std::num::wrapping_add_usize(c, 1);
-    }
+// A file from the k-th entry on of the table at a place: its entries have one size.
+fn entry(file: &[u8], table: usize, size: usize, k: usize) -> &[u8] {
+    tail(file, k.saturating_mul(size).saturating_add(table))
 }
 
-// Says where something differs, if it does.
-fn note(ok: bool, what: &[u8], k: usize, i: usize, counts: &mut [usize]) {
-    if ok {
-        return;
-    }
-    count(counts, DIFFERENCES);
-    say(what, k);
-    say(b" at ", i);
-    io::write_all(STDOUT_FILENO, b" differs\n");
+fn half(bytes: &[u8], at: usize) -> usize {
+    usize::from(half_at(bytes, at))
 }
 
-// ---- the list of starts
+// ---- a value as the file has it: a tag, a number of eight bytes and one of four
 
-fn fill(list: &mut [usize]) {
-    let mut i = 0;
-    while i < list.len() {
-        list[i] = MARK;
-        i += 1;
-    }
-}
-
-// What stands at i in a list that has n starts in its front, those at a place of the file.
-fn due(file: &[u8], at: usize, n: usize, i: usize) -> usize
-    requires { (at < 65536) × (n < 65536) }
-{
-    if i < n { word(file, at + 2 * i) } else { MARK }
-}
-
-// Whether the list has those n starts in its front, and behind them is as it was.
-fn holds(list: &[usize], file: &[u8], at: usize, n: usize) -> bool
-    requires { (at < 65536) × (n < 65536) }
-{
-    let mut i = 0;
-    while i < list.len() {
-        let x = list[i];
-        if x != due(file, at, n, i) {
-            return false;
-        }
-        i += 1;
-    }
-    true
-}
-
-// ---- a value as the file has it: a tag, and six numbers of two bytes
-
-#[derive(Clone, Copy)]
+#[derive(Clone, Copy, PartialEq, Eq)]
 struct Flat {
-    tag: usize,
-    a: u64,
-    b: u64,
-    c: u64,
-    d: u64,
-    e: u64,
-    f: u64,
+    tag: u16,
+    number: u64,
+    last: u32,
 }
 
-fn wide(tag: usize, n: u64) -> Flat {
+fn wide(tag: u16, number: u64) -> Flat {
     Flat {
         tag,
-        a: n % 0x1_0000,
-        b: n / 0x1_0000 % 0x1_0000,
-        c: n / 0x1_0000_0000 % 0x1_0000,
-        d: n / 0x1_0000_0000_0000,
-        e: 0,
-        f: 0,
+        number,
+        last: 0,
     }
 }
 
-fn flat_int(z: i64) -> Flat {
-    let n = duration::magnitude(z);
-    if z < 0 { wide(2, n) } else { wide(1, n) }
-}
-
-// `to_bits` is not defined at a NaN, which is a case of its own: the reader makes no Float or Double of one.
-fn single_bits(x: f32) -> u32 {
-    if x != x { 0 } else { f32::to_bits(x) }
-}
-
-fn double_bits(x: f64) -> u64 {
-    if x != x { 0 } else { f64::to_bits(x) }
-}
-
-fn sign_byte(neg: bool) -> u64
-    ensures { result ≤ 1 }
-{
-    if neg { 1 } else { 0 }
+// A string's length stands behind two bytes with its place, which no row passes.
+fn flat_part(at: usize, len: usize) -> Flat {
+    wide(
+        4,
+        (len as u64)
+            .saturating_mul(0x1_0000)
+            .saturating_add(at as u64),
+    )
 }
 
 fn flat_date(d: Date) -> Flat {
+    let [low, high] = d.year.to_le_bytes();
     Flat {
         tag: 7,
-        a: d.year as u64,
-        b: d.month as u64 + 256 * d.day as u64,
-        c: d.hour as u64 + 256 * d.minutes as u64,
-        d: d.seconds as u64,
-        e: d.micros as u64 % 0x1_0000,
-        f: d.micros as u64 / 0x1_0000,
+        number: u64::from_le_bytes([low, high, d.month, d.day, d.hour, d.minutes, d.seconds, 0]),
+        last: d.micros,
     }
 }
 
 fn flat_time(t: Time) -> Flat {
+    let [a, b, c, d] = t.days.to_le_bytes();
+    let neg = u8::from(t.neg);
     Flat {
         tag: 8,
-        a: t.days as u64 % 0x1_0000,
-        b: t.days as u64 / 0x1_0000,
-        c: sign_byte(t.neg) + 256 * t.hours as u64,
-        d: t.minutes as u64 + 256 * t.seconds as u64,
-        e: t.micros as u64 % 0x1_0000,
-        f: t.micros as u64 / 0x1_0000,
+        number: u64::from_le_bytes([a, b, c, d, neg, t.hours, t.minutes, t.seconds]),
+        last: t.micros,
     }
 }
 
-fn flat_part(at: usize, len: usize) -> Flat {
-    Flat {
-        tag: 4,
-        a: at as u64,
-        b: len as u64,
-        c: 0,
-        d: 0,
-        e: 0,
-        f: 0,
-    }
-}
-
+// The list has no NaN: the tags 9 and 10 are not in it.
 fn flat_of(v: Value) -> Flat {
     match v {
         Value::NULL => wide(0, 0),
         Value::Bytes { at, len } => flat_part(at, len),
-        Value::Int(z) => flat_int(z),
+        Value::Int(z) => wide(if z < 0 { 2 } else { 1 }, z.unsigned_abs()),
         Value::UInt(n) => wide(3, n),
-        Value::Float(x) => wide(5, single_bits(x) as u64),
-        Value::NanFloat(n) => wide(9, n as u64),
-        Value::Double(x) => wide(6, double_bits(x)),
+        Value::Float(x) => wide(5, u64::from(value::inner::single_bits(x))),
+        Value::NanFloat(n) => wide(9, u64::from(n)),
+        Value::Double(x) => wide(6, value::inner::double_bits(x)),
         Value::NanDouble(n) => wide(10, n),
         Value::Date(d) => flat_date(d),
         Value::Time(t) => flat_time(t),
     }
 }
 
-fn same(file: &[u8], at: usize, v: Flat) -> bool
-    requires { at < 4294967296 }
-{
-    if word(file, at) != v.tag {
-        return false;
+// ---- what is counted
+
+#[derive(Default, Drop)]
+struct Counts {
+    rows: usize,
+    columns: usize,
+    tags: [usize; 9],
+    cuts: usize,
+    differences: usize,
+}
+
+fn count(n: &mut usize) {
+    *n = n.saturating_add(1);
+}
+
+impl Counts {
+    // Says where something differs, if it does.
+    fn expect(
+        &mut self,
+        rt: &impl Print,
+        right: bool,
+        what: &str,
+        k: usize,
+        i: usize,
+    ) -> io::Result<()> {
+        if right {
+            return Ok(());
+        }
+        count(&mut self.differences);
+        println!(rt; "{what} of row {k} at {i} differs")
     }
-    if word(file, at + 2) as u64 != v.a {
-        return false;
+
+    fn say(&self, rt: &impl Print) -> io::Result<()> {
+        println!(rt; "rows {}", self.rows)?;
+        println!(rt; "columns {}", self.columns)?;
+        for (name, n) in TAGS.iter().zip(&self.tags) {
+            println!(rt; "{name} {n}")?;
+        }
+        println!(rt;
+            "rows cut short, refused with 8 and the list unchanged {}",
+            self.cuts
+        )?;
+        println!(rt; "differences {}", self.differences)
     }
-    if word(file, at + 4) as u64 != v.b {
-        return false;
-    }
-    if word(file, at + 6) as u64 != v.c {
-        return false;
-    }
-    if word(file, at + 8) as u64 != v.d {
-        return false;
-    }
-    if word(file, at + 10) as u64 != v.e {
-        return false;
-    }
-    word(file, at + 12) as u64 == v.f
 }
 
 // ---- a row
 
-// Whether the value at a start is the one that stands at a place of the file.
-fn value_right(file: &[u8], at: usize, row: &[u8], start: usize, t: u8, sign: u8) -> bool
-    requires { at < 4294967296 }
-{
-    match value::deserialize_bin(row, start, t, sign != 0) {
-        ReadValue::Done(g) => {
-            let v = g.value;
-            same(file, at, flat_of(v))
-        }
-        ReadValue::Refused(_) => false,
-    }
-}
-
-// The same of column i, which is NULL by its bit or has a value.
-fn column_right(
-    file: &[u8],
-    at: usize,
-    row: &[u8],
-    types: &[u8],
-    signs: &[u8],
-    list: &[usize],
-    i: usize,
-) -> bool
-    requires { at < 4294967296 }
-{
-    if types.len() <= i {
-        return false;
-    }
-    if signs.len() <= i {
-        return false;
-    }
-    if list.len() <= i {
-        return false;
-    }
-    let t = types[i];
-    let sign = signs[i];
-    let start = list[i];
-    // Behind the row's first byte: the bit says itself whether the bitmap reaches it.
-    match row::null_bit(wire::part(row, 1, 5), Side::ServerSide, i) {
-        ReadNull::Done(is_null) => {
-            if is_null {
-                word(file, at) == 0
-            } else {
-                value_right(file, at, row, start, t, sign)
-            }
-        }
-        ReadNull::Refused(_) => false,
-    }
-}
-
-fn row_right(file: &[u8], at: usize, n: usize, r: ReadRow, list: &[usize]) -> bool
-    requires { (at < 4294967296) × (n < 65536) }
-{
-    match r {
-        ReadRow::Done(c) => {
-            if c.nulls != word(file, at + 4) {
-                return false;
-            }
-            if c.used != word(file, at + 6) {
-                return false;
-            }
-            holds(list, file, word(file, at + 8), n)
-        }
-        ReadRow::Refused(_) => false,
-    }
-}
-
-// A row that was cut is short, and the list is as it was.
-fn cut_right(s: &[u8], types: &[u8], signs: &[u8], list: &mut [usize]) -> bool {
-    match row::read_row(s, types, signs, list) {
-        ReadRow::Done(_) => false,
-        ReadRow::Refused(r) => {
-            if refusal::number_of(r) != 8 {
-                return false;
-            }
-            holds(list, s, 0, 0)
-        }
-    }
-}
-
-fn check_columns(
-    file: &[u8],
-    at: usize,
+// A row of the timetable, its place in the table, and the types and signs of its columns.
+#[derive(Clone, Copy)]
+struct Row<'a> {
+    file: &'a [u8],
     k: usize,
-    row: &[u8],
-    types: &[u8],
-    signs: &[u8],
-    list: &[usize],
-    n: usize,
-    counts: &mut [usize],
-)
-    requires { (at < 65536) × (n < 65536) }
-{
-    let mut i = 0;
-    while i < n {
-        let place = at + 16 * i;
-        let ok = column_right(file, place, row, types, signs, list, i);
-        note(ok, b"value of row ", k, i, counts);
-        count(counts, word(file, place));
-        count(counts, COLUMNS);
-        i += 1;
+    listed: &'a [u8],
+    bytes: &'a [u8],
+    columns: usize,
+    types: &'a [u8],
+    signs: &'a [u8],
+}
+
+impl<'a> Row<'a> {
+    fn of(file: &'a [u8], k: usize) -> Self {
+        let columns = half(file, 2);
+        let lists = half(file, 4);
+        let listed = entry(file, half(file, 6), 12, k);
+        Row {
+            file,
+            k,
+            listed,
+            bytes: part(file, half(listed, 0), half(listed, 2)),
+            columns,
+            types: part(file, lists, columns),
+            signs: part(file, lists.saturating_add(columns), columns),
+        }
+    }
+
+    // The list of starts as it should be: behind them nothing has changed.
+    fn starts(self) -> [usize; PLACES] {
+        let starts = tail(self.file, half(self.listed, 8));
+        let mut list = UNTOUCHED;
+        for (i, place) in list.iter_mut().take(self.columns).enumerate() {
+            *place = half(starts, i.saturating_mul(2));
+        }
+        list
+    }
+
+    // The value of column i as it is listed.
+    fn listed_value(self, i: usize) -> Flat {
+        let bytes = entry(self.file, half(self.listed, 10), 16, i);
+        Flat {
+            tag: half_at(bytes, 0),
+            number: long_at(bytes, 2),
+            last: word_at(bytes, 10),
+        }
+    }
+
+    // Whether column i has the value that is listed, at its start, or is NULL by its bit where that is listed. The bitmap stands behind the
+    // row's first byte, and the bit says itself whether the bitmap reaches it.
+    fn has(self, list: &[usize], i: usize, listed: Flat) -> Option<bool> {
+        let column_type = *self.types.get(i)?;
+        let sign = *self.signs.get(i)?;
+        let start = *list.get(i)?;
+        if row::null_bit(part(self.bytes, 1, 5), Side::ServerSide, i).ok()? {
+            return Some(listed.tag == 0);
+        }
+        let read = value::deserialize_bin(self.bytes, start, column_type, sign != 0).ok()?;
+        Some(flat_of(read.value) == listed)
+    }
+
+    fn read(self, bytes: &[u8], list: &mut [usize]) -> Result<Columns, Refusal> {
+        row::read_row(bytes, self.types, self.signs, list)
+    }
+
+    fn check_starts(
+        self,
+        rt: &impl Print,
+        list: &mut [usize; PLACES],
+        counts: &mut Counts,
+    ) -> io::Result<()> {
+        let wanted = Columns {
+            nulls: half(self.listed, 4),
+            used: half(self.listed, 6),
+        };
+        let right = self.read(self.bytes, list) == Ok(wanted) && *list == self.starts();
+        count(&mut counts.rows);
+        counts.expect(rt, right, "starts", self.k, 0)
+    }
+
+    fn check_values(self, rt: &impl Print, list: &[usize], counts: &mut Counts) -> io::Result<()> {
+        for i in 0..self.columns {
+            let listed = self.listed_value(i);
+            let right = self.has(list, i, listed) == Some(true);
+            counts.expect(rt, right, "value", self.k, i)?;
+            count(&mut counts.columns);
+            if let Some(n) = counts.tags.get_mut(usize::from(listed.tag)) {
+                count(n);
+            }
+        }
+        Ok(())
+    }
+
+    // A row that was cut is short, and the list is as it was.
+    fn check_cuts(self, rt: &impl Print, counts: &mut Counts) -> io::Result<()> {
+        let mut list = UNTOUCHED;
+        for m in 0..self.bytes.len() {
+            let right = self.read(&self.bytes[..m], &mut list) == Err(Refusal::Short)
+                && list == UNTOUCHED;
+            counts.expect(rt, right, "cut", self.k, m)?;
+            count(&mut counts.cuts);
+        }
+        Ok(())
+    }
+
+    fn check(self, rt: &impl Print, counts: &mut Counts) -> io::Result<()> {
+        let mut list = UNTOUCHED;
+        self.check_starts(rt, &mut list, counts)?;
+        self.check_values(rt, &list, counts)?;
+        self.check_cuts(rt, counts)
     }
 }
 
-fn check_cuts(
-    k: usize,
-    row: &[u8],
-    types: &[u8],
-    signs: &[u8],
-    list: &mut [usize],
-    counts: &mut [usize],
-) {
-    fill(list);
-    let mut m = 0;
-    while m < row.len() {
-        let ok = cut_right(&row[..m], types, signs, list);
-        note(ok, b"cut of row ", k, m, counts);
-        count(counts, CUTS);
-        m += 1;
+fn main(rt: HostRuntime) -> io::Result<()> {
+    let file = read_front(&rt, "rows", LIST)?;
+    let mut counts = Counts::default();
+    for k in 0..half(&file, 0) {
+        Row::of(&file, k).check(&rt, &mut counts)?;
     }
-}
-
-fn check_starts(
-    file: &[u8],
-    at: usize,
-    k: usize,
-    row: &[u8],
-    types: &[u8],
-    signs: &[u8],
-    list: &mut [usize],
-    n: usize,
-    counts: &mut [usize],
-)
-    requires { (at < 4294967296) × (n < 65536) }
-{
-    fill(list);
-    let r = row::read_row(row, types, signs, list);
-    let ok = row_right(file, at, n, r, list);
-    note(ok, b"starts of row ", k, 0, counts);
-    count(counts, ROWS);
-}
-
-fn check_row(file: &[u8], k: usize, list: &mut [usize], counts: &mut [usize])
-    requires { k < 65536 }
-{
-    let n = word(file, 2);
-    let lists = word(file, 4);
-    let types = wire::part(file, lists, n);
-    let signs = wire::part(file, lists + n, n);
-    let at = word(file, 6) + 12 * k;
-    let values = word(file, at + 10);
-    let row = wire::part(file, word(file, at), word(file, at + 2));
-    check_starts(file, at, k, row, types, signs, list, n, counts);
-    check_columns(file, values, k, row, types, signs, list, n, counts);
-    check_cuts(k, row, types, signs, list, counts);
-}
-
-fn check_rows(file: &[u8], rows: usize, list: &mut [usize], counts: &mut [usize])
-    requires { rows < 65536 }
-{
-    let mut k = 0;
-    while k < rows {
-        check_row(file, k, list, counts);
-        k += 1;
-    }
-}
-
-fn say_count(what: &[u8], counts: &[usize], i: usize) {
-    if i < counts.len() {
-        let c = counts[i];
-        say(what, c);
-        io::write_all(STDOUT_FILENO, b"\n");
-    }
-}
-
-fn say_integers(counts: &[usize]) {
-    say_count(b"integers from 0 on ", counts, 1);
-    say_count(b"integers below 0 ", counts, 2);
-    say_count(b"unsigned integers above any i64 ", counts, 3);
-}
-
-fn say_others(counts: &[usize]) {
-    say_count(b"strings ", counts, 4);
-    say_count(b"f32 ", counts, 5);
-    say_count(b"f64 ", counts, 6);
-    say_count(b"dates ", counts, 7);
-    say_count(b"times ", counts, 8);
-}
-
-fn say_counts(counts: &[usize]) {
-    say_count(b"rows ", counts, ROWS);
-    say_count(b"columns ", counts, COLUMNS);
-    say_count(b"NULL ", counts, 0);
-    say_integers(counts);
-    say_others(counts);
-    say_count(
-        b"rows cut short, refused with 8 and the list unchanged ",
-        counts,
-        CUTS,
-    );
-    say_count(b"differences ", counts, DIFFERENCES);
-}
-
-fn run(file: &[u8]) {
-    // Four places more than a row has columns: they must stay.
-    let mut list = [0usize; 40];
-    let mut counts = [0usize; 13];
-    check_rows(file, word(file, 0), &mut list, &mut counts);
-    say_counts(&counts);
-}
-
-fn main(rt: HostRuntime) -> std::io::Result<()> {
-    let mut input = File::open(&rt, "rows")?;
-    let mut buffer = io::large_buffer();
-    let (size, ended) = files::read_full(&mut input, &mut buffer);
-    ended?;
-    run(wire::part(&buffer, 0, size));
-    Ok(())
+    counts.say(&rt)
 }

@@ -1,102 +1,110 @@
--- Chunks one after another, seen from the middle of a loop: a run, the chunks that a start asks for, and the search for a start.
-use Rattle.std.proofs.Common.{◌≡◌, ℕ, suc, ◌+◌, ◌-◌, ◌%◌, ◌<◌, ◌≤◌, Bool, true, false, List, length, drop, sym, refl, ap, ◌∙◌, arith, length-drop, drop-drop}
-use Rattle.refusal.specs.Number.{number}
-use Rattle.refusal.specs.Said.{gives, refused}
-use Rattle.refusal.specs.declared.Refusal.{Refusal}
+-- Chunks one after another, seen from the middle of a loop, and a start and a round by the runs that they are told from.
+use Rattle.std.specs.Prelude.{◌≡◌, ℕ, zero, suc, ◌+◌, ◌-◌, ◌%◌, ◌<◌, ◌≤◌, true, false, ◌==◌, List, length, drop, refl}
+use Rattle.std.proofs.Common.{sym, ap, ◌∙◌, arith, length-drop, drop-drop, eq-eqb, ne_eqb}
+use Rattle.std.proofs.Math.Decide.{dec_le}
+use Rattle.std.proofs.lemmas.Bool.Decides.{nat_tests}
+use Rattle.refusal.specs.Said.{Said, gives, refused}
 use Rattle.chunk.specs.Chunks.{next}
-use Rattle.salvage.specs.declared.Step.{Step}
-use Rattle.salvage.specs.declared.Step.TheVariants.{Took, Bad}
-use Rattle.salvage.specs.declared.Run.{Run}
-use Rattle.salvage.specs.Salvage.{chunk_at, step_said, stops, run_on, given, follow, starts_at, to_start}
-use Rattle.salvage.specs.SalvageLaws.{chunk_whole, one_more, run_none, run_bad, run_took, follow-took, follow_bad, start_none, start_here}
-use Rattle.salvage.specs.SalvageLaws.{start-later}
+use Rattle.salvage.specs.Salvage.{Run, chunk_at, stops, runs, given, follow, starts_at, to_start}
+use Rattle.salvage.specs.SalvageLaws.{chunk_whole, one_more, follow-took, follow_bad, start_none, start_here, start-later}
 
-pub next_is : (k : ℕ) → (k + 1) % 256 ≡ next k
-unfolding next
-next_is k = refl
+-- ---- one turn of a run
 
--- ---- a chunk at a place, by what the code answers
+module _ (f limit expected : ℕ) (s : List ℕ) where
+  pub runs_none : length s ≡ 0 → runs (suc f) limit expected s ≡ stops 0
+  unfolding runs
+  runs_none h = rw (eq-eqb (length s) 0 h)
 
-module _ (limit expected : ℕ) (s : List ℕ) (at : ℕ) (r : Step) (said : step_said r ≡ chunk_at limit expected (drop at s)) where
-  pub step-took : (n : ℕ) → r ≡ Took n → chunk_at limit expected (drop at s) ≡ gives n
-  step-took n e = sym said ∙ ap step_said e
+  pub runs_bad : 0 < length s → (k : ℕ) → chunk_at limit expected s ≡ refused k → runs (suc f) limit expected s ≡ stops k
+  unfolding runs
+  runs_bad h k e = rw (ne_eqb (length s) 0 (λ z. omega arith), e)
 
-  pub step_bad : (k : Refusal) → r ≡ Bad k → chunk_at limit expected (drop at s) ≡ refused (number k)
-  step_bad k e = sym said ∙ ap step_said e
+  pub runs_took : (n : ℕ) → chunk_at limit expected s ≡ gives n → runs (suc f) limit expected s ≡ one_more n (runs f limit (next expected) (drop n s))
+  unfolding runs
+  runs_took n e = let w = chunk_whole limit expected s n e in rw (ne_eqb (length s) 0 (λ z. omega (arith, w.size, w.there)), e)
 
-  -- it ends within the capture, and takes four bytes or more
-  pub step-within : (n : ℕ) → r ≡ Took n → (4 ≤ n) × (n ≤ length s - at)
-  step-within n e =
-      let w = chunk_whole limit expected (drop at s) n (step-took n e) in
-      (omega (arith, w.size), rw (← (length-drop at s)) w.there)
+-- ---- k turns are done: what they read, with what the others are to read, is the whole
 
--- ---- a run: what is read from here on, with what was read so far, is the whole
-
-module _ (limit : ℕ) (s : List ℕ) (from : ℕ) where
+module _ (limit most : ℕ) (s : List ℕ) where
   abbrev pub whole : Run
-  whole = run_on limit (given (drop from s)) (drop from s)
+  whole = runs most limit (given s) s
 
-  abbrev pub rest : ℕ → ℕ → Run
-  rest at expected = run_on limit expected (drop at s)
+  abbrev pub left : (k bytes expected : ℕ) → Run
+  left k bytes expected = runs (most - k) limit expected (drop bytes s)
 
-  pub record Going (packets at expected : ℕ) : Type 0 where
-    pub few : packets + from ≤ at
-    pub within : at ≤ length s
-    pub packets_so : packets + (rest at expected).packets ≡ whole.packets
-    pub bytes_so : at + (rest at expected).bytes ≡ from + whole.bytes
-    pub why_so : (rest at expected).why ≡ whole.why
+  pub record Going (k bytes expected : ℕ) : Type 0 where
+    pub within : bytes ≤ length s
+    pub packets_so : k + (left k bytes expected).packets ≡ whole.packets
+    pub bytes_so : bytes + (left k bytes expected).bytes ≡ whole.bytes
+    pub why_so : (left k bytes expected).why ≡ whole.why
 
-  pub going_begins : (expected : ℕ) → expected ≡ given (drop from s) → from ≤ length s → Going 0 from expected
-  going_begins expected e h = rw e (record { few = omega arith; within = h; packets_so = omega arith; bytes_so = refl; why_so = refl })
+  pub going_begins : (expected : ℕ) → expected ≡ given s → Going 0 0 expected
+  going_begins expected e = let z : most - 0 ≡ most = omega arith in rw e (record { within = omega arith; packets_so = rw z (omega arith); bytes_so = rw z (omega arith); why_so = rw z })
 
-  module _ (packets at expected : ℕ) (g : Going packets at expected) where
+  module _ (k bytes expected : ℕ) (g : Going k bytes expected) where
     -- where it stops at once, it is whole
-    stopped : (k : ℕ) → rest at expected ≡ stops k → record { packets = packets; bytes = at - from; why = k } ≡ whole
-    stopped k e =
-        let p : packets ≡ whole.packets = omega (arith, g.packets_so, ap (λ (r : Run). r.packets) e) in
-        let b : at - from ≡ whole.bytes = omega (arith, g.bytes_so, ap (λ (r : Run). r.bytes) e) in
-        let w : k ≡ whole.why = sym (ap (λ (r : Run). r.why) e) ∙ g.why_so in
-        rw (p, b, w)
+    stopped : (w : ℕ) → left k bytes expected ≡ stops w → record { packets = k; bytes = bytes; why = w } ≡ whole
+    stopped w e =
+        let p : k ≡ whole.packets = omega (arith, g.packets_so, ap (λ (r : Run). r.packets) e) in
+        let b : bytes ≡ whole.bytes = omega (arith, g.bytes_so, ap (λ (r : Run). r.bytes) e) in
+        let y : w ≡ whole.why = sym (ap (λ (r : Run). r.why) e) ∙ g.why_so in
+        rw (p, b, y)
 
-    pub going_ends : length s ≤ at → record { packets = packets; bytes = at - from; why = 0 } ≡ whole
-    going_ends h = stopped 0 (run_none limit expected (drop at s) (rw length-drop (omega arith)))
+    pub going_ends : most ≤ k → record { packets = k; bytes = bytes; why = 0 } ≡ whole
+    unfolding runs
+    going_ends h = let z : most - k ≡ 0 = omega arith in stopped 0 (rw z)
 
-    module _ (r : Step) (said : step_said r ≡ chunk_at limit expected (drop at s)) where
-      pub going_bad : (k : Refusal) → r ≡ Bad k → at < length s → record { packets = packets; bytes = at - from; why = number k } ≡ whole
-      going_bad k e h =
-          stopped (number k)
-          (run_bad limit expected (drop at s) (rw length-drop (omega arith)) (number k) (step_bad limit expected s at r said k e))
+    module _ (h : k < most) where
+      one : most - k ≡ suc (most - (k + 1))
+      one = omega arith
 
-      pub going_took : (n expected' : ℕ) → r ≡ Took n → expected' ≡ (expected + 1) % 256 → Going (packets + 1) (at + n) expected'
-      going_took n expected' e q =
-          let w = step-within limit expected s at r said n e in
-          let t : rest at expected ≡ one_more n (rest (at + n) expected') =
-          run_took limit expected (drop at s) n (step-took limit expected s at r said n e) ∙ rw (drop-drop, q, next_is expected) in
+      pub going_none : bytes ≡ length s → record { packets = k; bytes = bytes; why = 0 } ≡ whole
+      going_none e = stopped 0 (rw one (runs_none (most - (k + 1)) limit expected (drop bytes s) (rw length-drop (omega arith))))
+
+      pub going_bad : (bytes ≡ length s → ⊥) → (w : ℕ) → refused w ≡ chunk_at limit expected (drop bytes s) → record { packets = k; bytes = bytes; why = w } ≡ whole
+      going_bad more w e =
+          stopped w (rw one (runs_bad (most - (k + 1)) limit expected (drop bytes s) (rw length-drop (omega (arith, g.within, more))) w (sym e)))
+
+      pub going_within : (n : ℕ) → gives n ≡ chunk_at limit expected (drop bytes s) → bytes + n ≤ length s
+      going_within n e = let w = chunk_whole limit expected (drop bytes s) n (sym e) in omega (arith, g.within, w.there, length-drop bytes s)
+
+      pub going_took : (n : ℕ) → gives n ≡ chunk_at limit expected (drop bytes s) → Going (k + 1) (bytes + n) ((expected + 1) % 256)
+      unfolding next
+      going_took n e =
+          let t : left k bytes expected ≡ one_more n (left (k + 1) (bytes + n) (next expected)) =
+          rw one (runs_took (most - (k + 1)) limit expected (drop bytes s) n (sym e) ∙ rw drop-drop) in
           record {
-            few = omega (arith, g.few, w.0);
-            within = omega (arith, g.within, w.1);
+            within = going_within n e;
             packets_so = omega (arith, g.packets_so, ap (λ (r : Run). r.packets) t);
             bytes_so = omega (arith, g.bytes_so, ap (λ (r : Run). r.bytes) t);
             why_so = sym (ap (λ (r : Run). r.why) t) ∙ g.why_so;
           }
 
--- ---- k chunks: those from here on decide
+-- ---- k chunks follow exactly if as many are read
 
-pub follow_none : (limit expected : ℕ) (s : List ℕ) (k : ℕ) → k ≡ 0 → follow k limit expected s ≡ true
-unfolding follow
-follow_none limit expected s k z = rw z
+eqb_suc : (p k : ℕ) → (p == k) ≡ (1 + p == suc k)
+eqb_suc p k = grind (arith, nat_tests)
 
-module _ (limit : ℕ) (s : List ℕ) (at expected left : ℕ) (h : 0 < left) (r : Step) (said : step_said r ≡ chunk_at limit expected (drop at s)) where
-  more : follow left limit expected (drop at s) ≡ follow (suc (left - 1)) limit expected (drop at s)
-  more = ap (λ (k : ℕ). follow k limit expected (drop at s)) (omega arith)
+counts_by : (k limit expected : ℕ) (s : List ℕ) (x : Said ℕ) → chunk_at limit expected s ≡ x
+    → ((n : ℕ) → follow k limit (next expected) (drop n s) ≡ ((runs k limit (next expected) (drop n s)).packets == k))
+    → follow (suc k) limit expected s ≡ ((runs (suc k) limit expected s).packets == suc k)
+counts_by k limit expected s (gives n) e ih =
+    let p = (runs k limit (next expected) (drop n s)).packets in
+    follow-took k limit expected s n e ∙ ih n ∙ rw (runs_took k limit expected s n e) (eqb_suc p k)
+counts_by k limit expected s (refused w) e ih =
+    elim (dec_le (length s) 0) [
+      | yes z ↦ follow_bad k limit expected s w e ∙ rw (runs_none k limit expected s (omega arith)) (sym (ne_eqb 0 (suc k) (λ q. omega arith)))
+      | no z ↦ follow_bad k limit expected s w e ∙ rw (runs_bad k limit expected s (omega arith) w e) (sym (ne_eqb 0 (suc k) (λ q. omega arith)))
+    ]
 
-  pub follow_on : (n expected' : ℕ) → r ≡ Took n → expected' ≡ (expected + 1) % 256
-      → follow left limit expected (drop at s) ≡ follow (left - 1) limit expected' (drop (at + n) s)
-  follow_on n expected' e q =
-      more ∙ follow-took (left - 1) limit expected (drop at s) n (step-took limit expected s at r said n e) ∙ rw (drop-drop, q, next_is expected)
+counts : (k limit expected : ℕ) (s : List ℕ) → follow k limit expected s ≡ ((runs k limit expected s).packets == k)
+unfolding follow runs
+counts zero limit expected s = refl
+counts (suc k) limit expected s = counts_by k limit expected s (chunk_at limit expected s) refl (λ n. counts k limit (next expected) (drop n s))
 
-  pub follow_off : (k : Refusal) → r ≡ Bad k → follow left limit expected (drop at s) ≡ false
-  follow_off k e = more ∙ follow_bad (left - 1) limit expected (drop at s) (number k) (step_bad limit expected s at r said k e)
+pub start_counts : (limit : ℕ) (s : List ℕ) → starts_at limit s ≡ ((runs 3 limit (given s) s).packets == 3)
+unfolding starts_at
+start_counts limit s = counts 3 limit (given s) s
 
 -- ---- the search
 
@@ -104,10 +112,8 @@ module _ (limit : ℕ) (s : List ℕ) (at : ℕ) where
   pub search_ends : length s ≤ at → to_start limit (drop at s) ≡ 0
   search_ends h = start_none limit (drop at s) (rw length-drop (omega arith))
 
-  pub search_later : at < length s → (b : Bool) → b ≡ starts_at limit (drop at s) → b ≡ false
-      → to_start limit (drop at s) ≡ suc (to_start limit (drop (at + 1) s))
-  search_later h b e f =
-      start-later limit (drop at s) (rw length-drop (omega arith)) (sym e ∙ f) ∙ ap (λ (l : List ℕ). suc (to_start limit l)) (drop-drop 1 at s)
+  pub search_later : at < length s → starts_at limit (drop at s) ≡ false → to_start limit (drop at s) ≡ suc (to_start limit (drop (at + 1) s))
+  search_later h f = start-later limit (drop at s) (rw length-drop (omega arith)) f ∙ ap (λ (l : List ℕ). suc (to_start limit l)) (drop-drop 1 at s)
 
-  pub search_here : (b : Bool) → b ≡ starts_at limit (drop at s) → b ≡ true → to_start limit (drop at s) ≡ 0
-  search_here b e t = start_here limit (drop at s) (sym e ∙ t)
+  pub search_here : starts_at limit (drop at s) ≡ true → to_start limit (drop at s) ≡ 0
+  search_here t = start_here limit (drop at s) t

@@ -5,7 +5,7 @@ use Rattle.std.proofs.Math.Decide.{dec_le}
 use Rattle.refusal.specs.Said.{Said, gives, refused}
 use Rattle.chunk.specs.Chunks.{next}
 use Rattle.chunk.specs.ReadLaws.{by_test}
-use Rattle.salvage.specs.declared.Run.{Run}
+use Rattle.salvage.specs.Salvage.{Run}
 use Rattle.salvage.specs.Salvage.{Stretch, chunk_at, run_on, given, follow, starts_at, to_start, stretches}
 use Rattle.salvage.specs.SalvageLaws.{chunk_whole, run_took, follow-took, follow_bad, round_of, shown, shown-length, some, some-most}
 use Rattle.salvage.specs.SalvageLaws.{report, report_round, round_most}

@@ -1,5 +1,5 @@
 -- The bytes of a good stretch are its packets, to chunk's plain reader.
-use Rattle.std.specs.Prelude.{◌≡◌, ℕ, suc, ◌+◌, ◌<◌, ◌≤◌, List, length, take, drop, slice_index_or}
+use Rattle.std.specs.Prelude.{◌≡◌, ℕ, suc, ◌+◌, ◌<◌, ◌≤◌, List, length, take, drop, slice_index_or, None}
 use Rattle.std.proofs.Math.Path.{refl, ap}
 use Rattle.std.proofs.Common.{sym, ◌∙◌, length-drop, take-take, take-add, drop_at, length-take-le, eq-eqb, ne_eqb, le-ltb}
 use native.Mathlib.Omega.{arith}
@@ -12,8 +12,7 @@ use Rattle.wire.specs.RoomLaws.{length-patch}
 use Rattle.chunk.specs.Chunks.{largest, next}
 use Rattle.chunk.specs.Read.{idle, holding, opening, opens, packet, took, turn_of, read}
 use Rattle.chunk.specs.ReadLaws.{took_last, took_last_lem, headed_empty, headed_held, chunk-took, turn_headed, opened-stop, read_open}
-use Rattle.chunk.specs.declared.Tolerance.TheVariants.{Strict}
-use Rattle.salvage.specs.declared.Run.{Run}
+use Rattle.salvage.specs.Salvage.{Run}
 use Rattle.salvage.specs.Salvage.{run_on, given, stretches}
 use Rattle.salvage.specs.SalvageLaws.{Whole, by_run, round_of}
 use Rattle.salvage.specs.Report.{Each, reads_all, GoodReads}
@@ -28,31 +27,31 @@ buffer_of u len b = patch b 0 (take len (drop 4 u))
 module _ (limit expected len : ℕ) (u b : List ℕ) (n : le_at u 0 3 ≡ len) (k : slice_index_or u 3 0 ≡ expected) (there : len + 4 ≤ length u)
     (small : len ≤ limit) (below : limit < largest) (room : limit ≤ length b) where
   -- whether its header is remembered on the way or not
-  call_takes : turn_of largest Strict (idle limit expected) u b ≡ took largest (idle limit expected) len expected u b
+  call_takes : turn_of largest None (idle limit expected) u b ≡ took largest (idle limit expected) len expected u b
   unfolding took
   call_takes =
       let st = idle limit expected in
       let w : 0 + len ≤ length b = omega arith in
-      turn_headed largest Strict st u b refl (omega arith)
+      turn_headed largest None st u b refl (omega arith)
       ∙ rw (n, k)
       (elim (dec_le len 0) [
         | yes z ↦
             let e : len ≡ 0 = omega arith in
-            headed_empty largest Strict st len expected u b e
-            ∙ chunk-took largest Strict st 0 expected u b (omega arith) (eq-eqb expected expected refl) (omega arith)
+            headed_empty largest None st len expected u b e
+            ∙ chunk-took largest None st 0 expected u b (omega arith) (eq-eqb expected expected refl) (omega arith)
             ∙ ap (λ (j : ℕ). took largest st j expected u b) (sym e)
         | no z ↦
-            headed_held largest Strict st len expected u b (λ y. z (omega arith)) (omega arith)
-            ∙ chunk-took largest Strict (holding st len expected) len expected u b there (eq-eqb expected expected refl) w
+            headed_held largest None st len expected u b (λ y. z (omega arith)) (omega arith)
+            ∙ chunk-took largest None (holding st len expected) len expected u b there (eq-eqb expected expected refl) w
       ])
 
   pub call_is :
-      read largest Strict (idle limit expected) u b
+      read largest None (idle limit expected) u b
       ≡ record { answer = packet (0 + len); used = len + 4; next = idle limit (next expected); buf = buffer_of u len b }
   call_is =
       let st = idle limit expected in
-      let t : turn_of largest Strict st u b ≡ took_last st len expected u b = call_takes ∙ took_last_lem largest st len expected u b (λ e. omega arith) in
-      read_open largest Strict st u b refl ∙ opened-stop largest Strict st u b (rw t) ∙ rw t
+      let t : turn_of largest None st u b ≡ took_last st len expected u b = call_takes ∙ took_last_lem largest st len expected u b (λ e. omega arith) in
+      read_open largest None st u b refl ∙ opened-stop largest None st u b (rw t) ∙ rw t
 
   pub call_buffer : length (buffer_of u len b) ≡ length b
   call_buffer =

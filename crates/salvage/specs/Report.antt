@@ -1,9 +1,8 @@
 -- What a report means, apart from how it is made: W12's sentences on stretches, good bytes and the next start, of any list of them.
-use Rattle.std.specs.Prelude.{◌≡◌, ℕ, zero, suc, ◌+◌, ◌<◌, ◌≤◌, Bool, true, false, List, [], ◌∷◌, length, take, drop}
+use Rattle.std.specs.Prelude.{◌≡◌, ℕ, zero, suc, ◌+◌, ◌<◌, ◌≤◌, Bool, true, false, List, [], ◌∷◌, length, take, drop, None}
 use Rattle.chunk.specs.Chunks.{largest}
 use Rattle.chunk.specs.Read.{Answered, need_more, packet, refused, idle, read}
 use Rattle.chunk.specs.declared.PlainPacketCodec.{PlainPacketCodec}
-use Rattle.chunk.specs.declared.Tolerance.TheVariants.{Strict}
 use Rattle.salvage.specs.Salvage.{Stretch, good, lost, offset_of, bytes_of, given, starts_at}
 
 -- "Stretches cover the capture exactly; a stretch of zero bytes is not written": they lie end to end from one offset to another
@@ -26,7 +25,7 @@ is_packet (refused k) = false
 -- a plain reader that is lent what is left, and the packet buffer b, hands out k packets in k calls; then no byte is left
 unfoldable pub reads_all : PlainPacketCodec → (s b : List ℕ) → ℕ → Type 0
 reads_all st s b zero = s ≡ []
-reads_all st s b (suc k) = let d = read largest Strict st s b in (is_packet d.answer ≡ true) × reads_all d.next (drop d.used s) d.buf k
+reads_all st s b (suc k) = let d = read largest None st s b in (is_packet d.answer ≡ true) × reads_all d.next (drop d.used s) d.buf k
 
 -- the bytes of a good stretch, by themselves, are its packets: to a reader that was opened with the limit and expects the first
 -- chunk's number, with any packet buffer of the limit

@@ -4,7 +4,7 @@ use Rattle.std.proofs.Common.{sym, ap, ◌∙◌, append_assoc, arith, zero-add,
 use Rattle.std.proofs.Math.Decide.{dec_le}
 use Rattle.std.proofs.lemmas.Bool.{eqb-false}
 use Rattle.chunk.specs.ReadLaws.{by_test}
-use Rattle.salvage.specs.declared.Round.{Round}
+use Rattle.salvage.specs.SalvageLaws.{Round}
 use Rattle.salvage.specs.Salvage.{Stretch, good, lost, offset_of, bytes_of, written, run_on, given, starts_at, to_start, lost_at, stretches}
 use Rattle.salvage.specs.SalvageLaws.{ran, lost_by, round_of, shown, report, report_none, report_round, round_most, round_least}
 use Rattle.salvage.specs.Report.{Covers, Each, NoEarlier}

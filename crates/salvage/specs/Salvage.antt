@@ -1,16 +1,13 @@
 -- Damaged captures of plain chunks, by request W12. "Limits here are below 16,777,215 (else 1), so every chunk is a packet".
 -- s is a capture, or what is left of one from a place on.
-use Rattle.std.specs.Prelude.{◌≡◌, ℕ, zero, suc, ◌+◌, ◌*◌, Bool, true, false, cond, List, [], ◌∷◌, ◌++◌, length, drop, ◌==◌, nat_le, nat_lt, slice_index}
+use Rattle.refusal.specs.declared.Refusal.{Refusal}
+use Rattle.std.specs.Prelude.{◌≡◌, ℕ, zero, suc, ◌+◌, ◌*◌, Bool, true, false, cond, List, [], ◌∷◌, ◌++◌, length, drop, ◌==◌, nat_le, nat_lt, slice_index, Result, Option, Some, None}
 use Rattle.refusal.specs.Number.{number}
-use Rattle.refusal.specs.Said.{Said, gives, refused, check}
+use Rattle.refusal.specs.Said.{Said, gives, refused, check, said_of}
 use Rattle.wire.specs.Le.{le_at}
 use Rattle.wire.specs.Room.{patch}
 use Rattle.chunk.specs.Chunks.{largest, next}
-use Rattle.salvage.specs.declared.Step.{Step}
-use Rattle.salvage.specs.declared.Step.TheVariants as S
-use Rattle.salvage.specs.declared.Run.{Run}
-use Rattle.salvage.specs.declared.Salvaged.{Salvaged}
-use Rattle.salvage.specs.declared.Salvaged.TheVariants as C
+use Rattle.salvage.specs.declared.Run as code
 
 -- ---- one chunk
 
@@ -40,8 +37,20 @@ chunk_at limit expected s = taken expected (front_of limit s)
 
 -- ---- reading on from a start
 
--- A `Run` says how many packets and bytes come before the bad place, and why it is one: the refusal's number, or 0 at the
--- capture's end
+-- how many packets and bytes come before the bad place, and why it is one: the refusal's number, or 0 at the capture's end
+pub record Run : Type 0 where
+  pub packets : ℕ
+  pub bytes : ℕ
+  pub why : ℕ
+
+-- what the code answers, in these terms
+abbrev pub why_of : Option Refusal → ℕ
+why_of None = 0
+why_of (Some r) = number r
+
+abbrev pub run_said : code.Run → Run
+run_said r = record { packets = r.packets; bytes = r.bytes; why = why_of r.why }
+
 abbrev pub stops : ℕ → Run
 stops why = record { packets = 0; bytes = 0; why = why }
 
@@ -150,16 +159,7 @@ abbrev pub left_in : Said ℕ → (bs d : List ℕ) → List ℕ
 left_in (gives n) bs d = patch d 0 bs
 left_in (refused k) bs d = d
 
--- what the code's answers say
-abbrev pub step_said : Step → Said ℕ
-step_said (S.Took n) = gives n
-step_said (S.Bad r) = refused (number r)
-
-abbrev pub salvaged_said : Salvaged → Said ℕ
-salvaged_said (C.Stretches n) = gives n
-salvaged_said (C.Refused r) = refused (number r)
-
 -- what a call answers and leaves
-pub record Salvages (limit : ℕ) (s d : List ℕ) (r : Salvaged) (d' : List ℕ) : Type 0 where
-  pub said : salvaged_said r ≡ salvaged limit s d
+pub record Salvages (limit : ℕ) (s d : List ℕ) (r : Result ℕ Refusal) (d' : List ℕ) : Type 0 where
+  pub said : said_of r ≡ salvaged limit s d
   pub left : d' ≡ left_in (salvaged limit s d) (numbers (stretches limit s)) d

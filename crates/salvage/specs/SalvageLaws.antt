@@ -10,9 +10,8 @@ use Rattle.refusal.specs.Said.{Said, gives, refused}
 use Rattle.wire.specs.Le.{le_at}
 use Rattle.chunk.specs.Chunks.{next}
 use Rattle.chunk.specs.ReadLaws.{by_test}
-use Rattle.salvage.specs.declared.Run.{Run}
-use Rattle.salvage.specs.declared.Round.{Round}
-use Rattle.salvage.specs.Salvage.{Front, large, cut, front_of, taken, chunk_at, stops, behind, runs, run_on, given, follow, starts_at}
+use Rattle.salvage.specs.declared.Round as code
+use Rattle.salvage.specs.Salvage.{Front, large, cut, front_of, taken, chunk_at, Run, why_of, stops, behind, runs, run_on, given, follow, starts_at}
 use Rattle.salvage.specs.Salvage.{to_start, lost_at, Stretch, good, lost, written, starting, numbers}
 
 -- ---- one chunk
@@ -191,6 +190,16 @@ module _ (limit : ℕ) where
 -- at the capture's end nothing is left to lose
 unfoldable pub lost_by : (limit why : ℕ) → List ℕ → ℕ
 lost_by limit why bad = cond (why == 0) (length bad) (lost_at limit bad)
+
+pub record Round : Type 0 where
+  pub packets : ℕ
+  pub bytes : ℕ
+  pub why : ℕ
+  pub lost : ℕ
+
+-- what the code answers, in these terms
+abbrev pub round_said : code.Round → Round
+round_said r = record { packets = r.run.packets; bytes = r.run.bytes; why = why_of r.run.why; lost = r.lost }
 
 unfoldable pub round_of : (limit : ℕ) → List ℕ → Round
 round_of limit s =

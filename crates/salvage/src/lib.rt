@@ -7,281 +7,279 @@
 // looked at a few times at the most, so both take time by the capture's length alone.
 #![tactic(auto)]
 
+ghost use Rattle.refusal.specs.Said.{said_of};
 ghost use Rattle.std.specs.Prelude.{◌≡◌, ◌+◌, ◌*◌, ◌<◌, ◌≤◌, length, drop};
+ghost use Rattle.std.specs.Int.{from_bool};
 ghost use Rattle.wire.specs.Room.{patch};
-ghost use Rattle.salvage.specs.Salvage.{chunk_at, step_said, run_on, given, follow, starts_at, to_start, stretches, numbers, counted, salvaged_said, Salvages};
-ghost use Rattle.salvage.specs.SalvageLaws.{lost_by, round_of, shown, some, four};
+ghost use Rattle.salvage.specs.Salvage.{chunk_at, runs, run_said, why_of, given, starts_at, to_start, stretches, numbers, counted, Salvages};
+ghost use Rattle.salvage.specs.SalvageLaws.{round_of, round_said, shown, some, four};
 
 use chunk::MAX_PAYLOAD_LEN;
 use refusal::{Refusal, number_of};
 use wire::inner::le;
 
-// How many stretches there are, or why there is no report.
-#[derive(Clone, Copy)]
-pub enum Salvaged {
-    Stretches(usize),
-    Refused(Refusal),
-}
-
-// A chunk that is to have a number: how many bytes it takes, or why the place is bad.
-#[derive(Clone, Copy)]
-enum Step {
-    Took(usize),
-    Bad(Refusal),
-}
-
-// What is read on from a start: packets and bytes, and why it ends: the refusal's number, or 0 at the capture's end.
+// What is read on from a start: packets and bytes, and why it ends, if not at the capture's end.
 #[derive(Clone, Copy)]
 struct Run {
     packets: usize,
     bytes: usize,
-    why: u8,
+    why: Option<Refusal>,
+}
+
+impl Run {
+    // The refusal's number, or 0 at the capture's end.
+    fn number(self) -> u8
+        ensures { result ≡ why_of self.why }
+    {
+        self.why.map_or(0, number_of)
+    }
 }
 
 // A run, and the bytes that are lost behind it.
 #[derive(Clone, Copy)]
 struct Round {
-    packets: usize,
-    bytes: usize,
-    why: u8,
+    run: Run,
     lost: usize,
 }
 
-// ---- chunks
-
-// The chunk at a place. Its payload is not looked at.
-fn chunk_at(capture: &[u8], at: usize, limit: usize, expected: u8) -> Step
-    requires { at ≤ length capture.now }
-    ensures { step_said result ≡ chunk_at limit expected (drop at capture.now) }
-{
-    let left = capture.len() - at;
-    if left < 4 {
-        return Step::Bad(Refusal::Short);
-    }
-    let len = le(capture, at, 3) as usize;
-    if limit < len {
-        return Step::Bad(Refusal::TooLarge);
-    }
-    if left - 4 < len {
-        return Step::Bad(Refusal::Short);
-    }
-    if capture[at + 3] == expected {
-        Step::Took(len + 4)
-    } else {
-        Step::Bad(Refusal::OutOfSync)
-    }
+// A capture, or what is left of one from a place on, and the limit of its payloads.
+#[derive(Clone, Copy)]
+struct Capture<'a> {
+    bytes: &'a [u8],
+    limit: usize,
 }
 
-// The number of the chunk at a place, as it stands there. Where its header is cut no number matters.
-fn number_at(capture: &[u8], at: usize) -> u8
-    requires { at ≤ length capture.now }
-    ensures { result ≡ given (drop at capture.now) }
-{
-    if capture.len() - at < 4 {
-        return 0;
+impl<'a> Capture<'a> {
+    // What is left behind so many bytes.
+    fn after(self, n: usize) -> Capture<'a>
+        requires { n ≤ length self.bytes.now }
+        ensures bytes { result.bytes.now ≡ drop n self.entry.bytes.now }
+        ensures limit { result.limit ≡ self.entry.limit }
+    {
+        Capture {
+            bytes: &self.bytes[n..],
+            limit: self.limit,
+        }
     }
-    capture[at + 3]
-}
 
-// ---- a run
+    // The bytes of the chunk in front. Its payload is not looked at.
+    #[tactic(auto, using(crate::proofs::Steps::chunk_rules))]
+    fn chunk(self, expected: u8) -> Result<usize, Refusal>
+        ensures { said_of result ≡ chunk_at self.entry.limit expected self.entry.bytes.now }
+    {
+        let [_, _, _, number, payload @ ..] = self.bytes else {
+            return Err(Refusal::Short);
+        };
+        let len = le(self.bytes, 0, 3) as usize;
+        if self.limit < len {
+            return Err(Refusal::TooLarge);
+        }
+        if payload.len() < len {
+            return Err(Refusal::Short);
+        }
+        if *number != expected {
+            return Err(Refusal::OutOfSync);
+        }
+        Ok(len + 4)
+    }
 
-// Chunks from a start on, until one is bad or the capture ends.
-fn run_on(capture: &[u8], from: usize, limit: usize) -> Run
-    requires { from ≤ length capture.now }
-    ensures { result ≡ run_on limit (given (drop from capture.now)) (drop from capture.now) }
-{
-    let mut packets: usize = 0;
-    let mut at = from;
-    let mut expected = number_at(capture, from);
-    while at < capture.len() {
-        match chunk_at(capture, at, limit, expected) {
-            Step::Took(n) => {
-                at += n;
+    // The number of the chunk in front, as it stands there. Where its header is cut no number matters.
+    fn number(self) -> u8
+        ensures { result ≡ given self.entry.bytes.now }
+    {
+        self.bytes.get(3).copied().unwrap_or(0)
+    }
+
+    // Chunks from the front on, `most` of them at the most, until one is bad or the capture ends.
+    #[tactic(auto, using(crate::proofs::Steps::run_rules))]
+    fn run(self, most: usize) -> Run
+        ensures { run_said result ≡ runs most self.entry.limit (given self.entry.bytes.now) self.entry.bytes.now }
+    {
+        let mut run = Run {
+            packets: 0,
+            bytes: 0,
+            why: None,
+        };
+        let mut expected = self.number();
+        for _ in 0..most {
+            match self.after(run.bytes).chunk(expected) {
+                Ok(n) => {
+                    run.bytes += n;
+                }
+                Err(_) if run.bytes == self.bytes.len() => {
+                    return run;
+                }
+                Err(why) => {
+                    run.why = Some(why);
+                    return run;
+                }
             }
-            Step::Bad(r) => {
-                let why = number_of(r);
-                let bytes = at - from;
-                return Run {
-                    packets,
-                    bytes,
-                    why,
-                };
+            run.packets += 1;
+            expected = expected.wrapping_add(1);
+        }
+        run
+    }
+
+    // Whether three whole chunks follow.
+    #[tactic(auto, using(crate::proofs::RunLaws::start_counts))]
+    fn starts(self) -> bool
+        ensures { result ≡ starts_at self.entry.limit self.entry.bytes.now }
+    {
+        self.run(3).packets == 3
+    }
+
+    // How many bytes come before the first start, or all of them.
+    #[tactic(auto, using(crate::proofs::Steps::search_rules))]
+    fn to_start(self) -> usize
+        ensures { result ≡ to_start self.entry.limit self.entry.bytes.now }
+    {
+        for at in 0..self.bytes.len() {
+            if self.after(at).starts() {
+                return at;
             }
         }
-        packets += 1;
-        expected = std::num::wrapping_add_u8(expected, 1);
+        self.bytes.len()
     }
-    let bytes = at - from;
-    Run {
-        packets,
-        bytes,
-        why: 0,
+
+    // From a start to the next one.
+    #[tactic(auto, using(crate::proofs::Steps::round_rules))]
+    fn round(self) -> Round
+        ensures { round_said result ≡ round_of self.entry.limit self.entry.bytes.now }
+    {
+        let run = self.run(self.bytes.len());
+        let lost = match run.why {
+            None => 0,
+            Some(_) => 1 + self.after(run.bytes + 1).to_start(),
+        };
+        Round { run, lost }
     }
-}
 
-// ---- the next start
-
-// Whether k whole chunks follow, numbered from `first` on.
-fn follows(capture: &[u8], from: usize, limit: usize, first: u8, k: usize) -> bool
-    requires { from ≤ length capture.now }
-    ensures { result ≡ follow k limit first (drop from capture.now) }
-{
-    let mut at = from;
-    let mut expected = first;
-    let mut left = k;
-    while 0 < left {
-        match chunk_at(capture, at, limit, expected) {
-            Step::Took(n) => {
-                at += n;
-            }
-            Step::Bad(_) => {
-                return false;
-            }
+    // How many stretches there are.
+    #[tactic(auto, using(crate::proofs::Steps::count_rules))]
+    fn count(self) -> usize
+        ensures { result ≡ length (stretches self.entry.limit self.entry.bytes.now) }
+    {
+        let mut n = 0;
+        let mut at = 0;
+        // each turn goes on by a round's bytes
+        while at < self.bytes.len() {
+            let round = self.after(at).round();
+            n += round.stretches();
+            at += round.run.bytes + round.lost;
         }
-        expected = std::num::wrapping_add_u8(expected, 1);
-        left -= 1;
+        n
     }
-    true
-}
 
-fn starts_at(capture: &[u8], at: usize, limit: usize) -> bool
-    requires { at ≤ length capture.now }
-    ensures { result ≡ starts_at limit (drop at capture.now) }
-{
-    follows(capture, at, limit, number_at(capture, at), 3)
-}
-
-// The first start from a place on, or the capture's end.
-fn next_start(capture: &[u8], from: usize, limit: usize) -> usize
-    requires { from ≤ length capture.now }
-    ensures { result ≡ from + to_start limit (drop from capture.now) }
-{
-    let mut at = from;
-    while at < capture.len() {
-        if starts_at(capture, at, limit) {
-            return at;
+    // All stretches, where the list has room for them.
+    #[tactic(auto, using(crate::proofs::Steps::write_rules))]
+    fn write(self, out: &mut [usize])
+        requires { 4 * length (stretches self.limit self.bytes.now) ≤ length out.old }
+        ensures { out.new ≡ patch out.old 0 (numbers (stretches self.entry.limit self.entry.bytes.now)) }
+    {
+        let mut i = 0;
+        let mut at = 0;
+        // each turn goes on by a round's bytes
+        while at < self.bytes.len() {
+            let round = self.after(at).round();
+            i = round.put(out, i, at);
+            at += round.run.bytes + round.lost;
         }
-        at += 1;
-    }
-    at
-}
-
-// ---- rounds
-
-// How many bytes are lost at the place where a run ended: all up to the next start, or none at the capture's end.
-fn lost_at(capture: &[u8], bad: usize, limit: usize, why: u8) -> usize
-    requires { (bad ≤ length capture.now) × (0 < why → bad < length capture.now) }
-    ensures { result ≡ lost_by limit why (drop bad capture.now) }
-{
-    if why == 0 {
-        return capture.len() - bad;
-    }
-    next_start(capture, bad + 1, limit) - bad
-}
-
-// From a start to the next one.
-fn round_at(capture: &[u8], at: usize, limit: usize) -> Round
-    requires { at ≤ length capture.now }
-    ensures { result ≡ round_of limit (drop at capture.now) }
-{
-    let r = run_on(capture, at, limit);
-    let lost = lost_at(capture, at + r.bytes, limit, r.why);
-    Round {
-        packets: r.packets,
-        bytes: r.bytes,
-        why: r.why,
-        lost,
     }
 }
 
-// A stretch of zero bytes does not count.
-fn some(bytes: usize) -> usize
-    ensures { result ≡ some bytes }
-{
-    if 0 < bytes { 1 } else { 0 }
-}
-
-// How many stretches there are.
-fn count(capture: &[u8], limit: usize) -> usize
-    ensures { result ≡ length (stretches limit capture.now) }
-{
-    let mut n: usize = 0;
-    let mut at: usize = 0;
-    while at < capture.len() {
-        let r = round_at(capture, at, limit);
-        n += some(r.bytes) + some(r.lost);
-        at += r.bytes + r.lost;
+impl Round {
+    // How many stretches it has: one of zero bytes does not count.
+    #[tactic(auto, unfolding(crate::specs::SalvageLaws::some))]
+    fn stretches(self) -> usize
+        ensures { result ≡ some self.run.bytes + some self.lost }
+    {
+        usize::from(0 < self.run.bytes) + usize::from(0 < self.lost)
     }
-    n
-}
 
-// A stretch of some bytes in the list, and the place behind it. A stretch of zero bytes is not written.
-fn put(out: &mut [usize], i: usize, kind: usize, offset: usize, bytes: usize, last: usize) -> usize
-    requires { i + length (four kind offset bytes last) ≤ length out.old }
-    ensures { (result ≡ i + length (four kind offset bytes last))
-        × (out.new ≡ patch out.old i (four kind offset bytes last)) }
-{
-    if 0 < bytes {
-        out[i] = kind;
-        out[i + 1] = offset;
-        out[i + 2] = bytes;
-        out[i + 3] = last;
-        return i + 4;
+    // Its stretches in the list, and the place behind them.
+    #[tactic(auto, using(crate::proofs::PutLaws::numbers_length))]
+    fn put(self, out: &mut [usize], i: usize, at: usize) -> usize
+        requires { (i + length (numbers (shown at (round_said self))) ≤ length out.old) × (at + self.run.bytes < 0x8000_0000_0000_0000) }
+        ensures { (result ≡ i + length (numbers (shown at (round_said self))))
+            × (out.new ≡ patch out.old i (numbers (shown at (round_said self)))) }
+    {
+        let good = Stretch {
+            good: true,
+            offset: at,
+            bytes: self.run.bytes,
+            last: self.run.packets,
+        };
+        let lost = Stretch {
+            good: false,
+            offset: at + self.run.bytes,
+            bytes: self.lost,
+            last: usize::from(self.run.number()),
+        };
+        let next = good.put(out, i);
+        lost.put(out, next)
     }
-    i
 }
 
-// A round's stretches in the list, and the place behind them.
-fn put_round(out: &mut [usize], i: usize, at: usize, r: Round) -> usize
-    requires { (i + length (numbers (shown at r)) ≤ length out.old) × (at + r.bytes < 0x8000_0000_0000_0000) }
-    ensures { (result ≡ i + length (numbers (shown at r)))
-        × (out.new ≡ patch out.old i (numbers (shown at r))) }
-{
-    let next = put(out, i, 1, at, r.bytes, r.packets);
-    put(out, next, 0, at + r.bytes, r.lost, r.why as usize)
+// A stretch as the list has it: its place, and its packets or the refusal's number.
+#[derive(Clone, Copy)]
+struct Stretch {
+    good: bool,
+    offset: usize,
+    bytes: usize,
+    last: usize,
 }
 
-// All stretches, where the list has room for them.
-fn write_all(capture: &[u8], limit: usize, out: &mut [usize])
-    requires { 4 * length (stretches limit capture.now) ≤ length out.old }
-    ensures { out.new ≡ patch out.old 0 (numbers (stretches limit capture.now)) }
-{
-    let mut i: usize = 0;
-    let mut at: usize = 0;
-    while at < capture.len() {
-        let r = round_at(capture, at, limit);
-        i = put_round(out, i, at, r);
-        at += r.bytes + r.lost;
+impl Stretch {
+    // Its numbers in the list, and the place behind them. A stretch of zero bytes is not written.
+    #[tactic(auto, using(crate::proofs::Steps::put_rules))]
+    fn put(self, out: &mut [usize], i: usize) -> usize
+        requires { i + length (four (from_bool self.good) self.offset self.bytes self.last) ≤ length out.old }
+        ensures { (result ≡ i + length (four (from_bool self.good) self.offset self.bytes self.last))
+            × (out.new ≡ patch out.old i (four (from_bool self.good) self.offset self.bytes self.last)) }
+    {
+        if self.bytes == 0 {
+            return i;
+        }
+        out[i..i + 4].copy_from_slice(&[
+            usize::from(self.good),
+            self.offset,
+            self.bytes,
+            self.last,
+        ]);
+        i + 4
     }
 }
 
 // ---- the entries
 
 // How many stretches a capture has, for a caller who asks before it lends the list: each one takes four numbers.
-pub fn stretches(limit: usize, capture: &[u8]) -> Salvaged
-    ensures { salvaged_said result ≡ counted limit capture.now }
+#[tactic(auto, unfolding(crate::specs::Salvage::counted))]
+pub fn stretches(limit: usize, capture: &[u8]) -> Result<usize, Refusal>
+    ensures { said_of result ≡ counted limit capture.now }
 {
-    if limit == 0 {
-        return Salvaged::Refused(Refusal::BadLimit);
+    if limit == 0 || MAX_PAYLOAD_LEN <= limit {
+        return Err(Refusal::BadLimit);
     }
-    if MAX_PAYLOAD_LEN <= limit {
-        return Salvaged::Refused(Refusal::BadLimit);
-    }
-    Salvaged::Stretches(count(capture, limit))
+    let whole = Capture {
+        bytes: capture,
+        limit,
+    };
+    Ok(whole.count())
 }
 
 // Writes the stretches of a capture to the front of the list, and answers how many they are.
-pub fn salvage(limit: usize, capture: &[u8], out: &mut [usize]) -> Salvaged
+#[tactic(auto, using(crate::proofs::EndLaws::salvage_refused))]
+pub fn salvage(limit: usize, capture: &[u8], out: &mut [usize]) -> Result<usize, Refusal>
     ensures { Salvages limit capture.now out.old result out.new }
 {
-    match stretches(limit, capture) {
-        Salvaged::Stretches(n) => {
-            if out.len() / 4 < n {
-                return Salvaged::Refused(Refusal::NoRoom);
-            }
-            write_all(capture, limit, out);
-            Salvaged::Stretches(n)
-        }
-        Salvaged::Refused(r) => Salvaged::Refused(r),
+    let n = stretches(limit, capture)?;
+    if out.len() / 4 < n {
+        return Err(Refusal::NoRoom);
     }
+    let whole = Capture {
+        bytes: capture,
+        limit,
+    };
+    whole.write(out);
+    Ok(n)
 }

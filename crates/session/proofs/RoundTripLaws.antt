@@ -1,5 +1,6 @@
 -- What was written is read back: each record, and each list of variables. The cursor moves, and stays within the bytes.
-use Rattle.std.specs.Prelude.{ℕ, zero, suc, ◌+◌, ◌≤◌, ◌<◌, ◌^◌, ◌≡◌, refl, Bool, true, false, List, [], ◌∷◌, ◌++◌, length, drop, eqb}
+use Rattle.refusal.specs.declared.Refusal.{Refusal}
+use Rattle.std.specs.Prelude.{ℕ, zero, suc, ◌+◌, ◌≤◌, ◌<◌, ◌^◌, ◌≡◌, refl, Bool, true, false, List, [], ◌∷◌, ◌++◌, length, drop, eqb, Result}
 use Rattle.std.proofs.Common.{sym, ap, ◌∙◌, append_assoc, arith, length-append, length-drop, drop-drop, ne_eqb, eqb-true}
 use Rattle.std.proofs.Math.Seq.{drop-append_seam, take-length}
 use Rattle.std.proofs.lemmas.Bool.{eqb-false}
@@ -7,13 +8,11 @@ use Rattle.refusal.specs.Said.{Said, gives, refused, and_then}
 use Rattle.wire.specs.LenEnc.{str_at, part_of, str_bytes, len_bytes}
 use Rattle.wire.specs.LenEncLaws.{str_back, part_back, part_fits, len_length}
 use Rattle.wire.specs.Room.{Wrote}
-use Rattle.wire.specs.declared.Put.{Put}
-use Rattle.wire.specs.declared.LenEncStr.{LenEncStr}
-use Rattle.session.specs.Record.{record_at, record_of, record_bytes, one_string, bytes_of, text_of, whole, is_one, pair_bytes, pair_at, variable_at, pair}
+use Rattle.session.specs.Record.{record_at, record_of, record_bytes, one_string, bytes_of, whole, is_one, pair_bytes, pair_at, variable_at, pair}
 use Rattle.session.specs.RecordLaws.{str_in, variable_end, variable_pair, never, wrote_then, wrote_part}
 use Rattle.session.specs.RoundTrip.{Content, content_of, schema, gtids, characteristics, state, unsupported, ReadsBack, NameValue}
 use Rattle.session.specs.RoundTrip.{pairs_bytes, Fit, gather}
-use Rattle.session.specs.declared.Text.{Text}
+use Rattle.wire.specs.declared.Text.{Text}
 use Rattle.session.specs.declared.SystemVariable.{SystemVariable}
 use Rattle.session.specs.declared.SessionStateChange.{SessionStateChange}
 use Rattle.session.specs.declared.SessionStateChange.TheVariants as Of
@@ -21,7 +20,7 @@ use Rattle.session.specs.declared.SessionStateChange.TheVariants as Of
 -- ---- records
 
 -- where the string stands that was written first
-abbrev front : List ℕ → LenEncStr
+abbrev front : List ℕ → Text
 front bs = record { at = 0 + length (len_bytes (length bs)); len = length bs }
 
 module _ (bs t : List ℕ) (h : length bs < 2 ^ 64) where
@@ -40,7 +39,7 @@ all s = part_fits s 0 (length s) (omega arith) ∙ take-length s
 
 -- one string, of whichever type, whatever stands behind it
 one_back : (kind : ℕ) (of : Text → SessionStateChange) (says : List ℕ → Content)
-    → ((s : List ℕ) → record_at s kind ≡ one_string (λ p. of (text_of p)) s)
+    → ((s : List ℕ) → record_at s kind ≡ one_string of s)
     → ((s : List ℕ) (text : Text) → content_of s (of text) ≡ says (bytes_of s text))
     → ((s : List ℕ) (text : Text) → record_bytes s (of text) ≡ str_bytes (bytes_of s text))
     → (src : List ℕ) (text : Text) (t : List ℕ) → length (bytes_of src text) < 2 ^ 64 → ReadsBack src (of text) (record_bytes src (of text) ++ t) kind
@@ -48,9 +47,9 @@ one_back kind of says by content written src text t h =
     let bs = bytes_of src text in
     rw (written src text)
     record {
-      found = record_of (of (text_of (front bs))) ((front bs).at + (front bs).len);
+      found = record_of (of (front bs)) ((front bs).at + (front bs).len);
       read = by (str_bytes bs ++ t) ∙ rw (front_read bs t h);
-      same = content (str_bytes bs ++ t) (text_of (front bs)) ∙ ap says (front_part bs t h) ∙ sym (content src text);
+      same = content (str_bytes bs ++ t) (front bs) ∙ ap says (front_part bs t h) ∙ sym (content src text);
       used = front_used bs t h ∙ ap length (sym (written src text));
     }
 
@@ -120,14 +119,14 @@ variables_back src s = record { found = record_of Of.SystemVariables 0; read = r
 
 -- ---- variables
 
-abbrev pair_of : LenEncStr → LenEncStr → SystemVariable
-pair_of n w = record { name = text_of n; value = text_of w; next = w.at + w.len }
+abbrev pair_of : Text → Text → SystemVariable
+pair_of n w = record { name = n; value = w; next = w.at + w.len }
 
 module _ (s : List ℕ) (at : ℕ) (v : SystemVariable) where
   abbrev pub Moves : Type 0
   Moves = (at < v.next) × (v.next ≤ length s) × (v.name.at + v.name.len ≤ length s) × (v.value.at + v.value.len ≤ length s)
 
-  valued : (n : LenEncStr) → str_at s at ≡ gives n → (r : Said LenEncStr) → str_at s (n.at + n.len) ≡ r
+  valued : (n : Text) → str_at s at ≡ gives n → (r : Said Text) → str_at s (n.at + n.len) ≡ r
       → and_then (and_then r (λ w. gives (pair_of n w))) (λ u. gives (pair u)) ≡ gives (pair v) → Moves
   valued n f (gives w) g e =
       let q : pair_of n w ≡ v = cc e in
@@ -136,7 +135,7 @@ module _ (s : List ℕ) (at : ℕ) (v : SystemVariable) where
       rw (← q) (omega arith, omega arith, omega arith, omega arith)
   valued n f (refused k) g e = never e
 
-  named : (r : Said LenEncStr) → str_at s at ≡ r
+  named : (r : Said Text) → str_at s at ≡ r
       → and_then (and_then r (λ n. and_then (str_at s (n.at + n.len)) (λ w. gives (pair_of n w)))) (λ u. gives (pair u)) ≡ gives (pair v) → Moves
   named (gives n) f e = valued n f (str_at s (n.at + n.len)) refl e
   named (refused k) f e = never e
@@ -160,8 +159,8 @@ pub pair_back : (s : List ℕ) (at : ℕ) (p : NameValue) (t : List ℕ) → len
     → (v : SystemVariable) × (pair_at s at ≡ gives v) × (v.next ≡ at + length (pair_bytes p.name p.value))
     × (bytes_of s v.name ≡ p.name) × (bytes_of s v.value ≡ p.value)
 pair_back s at p t h k e =
-    let n : LenEncStr = record { at = at + length (len_bytes (length p.name)); len = length p.name } in
-    let w : LenEncStr = record { at = n.at + n.len + length (len_bytes (length p.value)); len = length p.value } in
+    let n : Text = record { at = at + length (len_bytes (length p.name)); len = length p.name } in
+    let w : Text = record { at = n.at + n.len + length (len_bytes (length p.value)); len = length p.value } in
     let first : drop at s ≡ str_bytes p.name ++ (str_bytes p.value ++ t) = e ∙ append_assoc (str_bytes p.name) (str_bytes p.value) t in
     let second : drop (n.at + n.len) s ≡ str_bytes p.value ++ t =
     past s at (n.at + n.len) (str_bytes p.name) (str_bytes p.value ++ t) first (simp length-append (omega arith)) in
@@ -198,7 +197,7 @@ pairs_back ps f = pairs_at ps (length ps + 1) (pairs_bytes ps) 0 f (omega arith)
 -- ---- a buffer in between
 
 -- pairs written one behind the other, each at the place that the last writer answered, are their list
-pub pairs-written : (p : NameValue) (ps : List NameValue) (d : List ℕ) (at : ℕ) {r r' : Put} {d₁ d₂ : List ℕ} → at + length (pairs_bytes (p ∷ ps)) ≤ length d
+pub pairs-written : (p : NameValue) (ps : List NameValue) (d : List ℕ) (at : ℕ) {r r' : Result ℕ Refusal} {d₁ d₂ : List ℕ} → at + length (pairs_bytes (p ∷ ps)) ≤ length d
     → Wrote (pair_bytes p.name p.value) d at r d₁ → Wrote (pairs_bytes ps) d₁ (at + length (pair_bytes p.name p.value)) r' d₂
     → Wrote (pairs_bytes (p ∷ ps)) d at r' d₂
 unfolding pairs_bytes
@@ -207,6 +206,6 @@ pairs-written p ps d at h w v =
     (omega (arith, length-append (pair_bytes p.name p.value) (pairs_bytes ps))) w v
 
 -- and the cursor hands them out again from the part of the buffer that they fill
-pub pairs_through : (ps : List NameValue) (d : List ℕ) (at : ℕ) {r : Put} {d' : List ℕ} → Fit ps → at + length (pairs_bytes ps) ≤ length d
+pub pairs_through : (ps : List NameValue) (d : List ℕ) (at : ℕ) {r : Result ℕ Refusal} {d' : List ℕ} → Fit ps → at + length (pairs_bytes ps) ≤ length d
     → Wrote (pairs_bytes ps) d at r d' → gather (length ps + 1) (part_of d' at (length (pairs_bytes ps))) 0 ≡ gives ps
 pairs_through ps d at f h w = ap (λ (s : List ℕ). gather (length ps + 1) s 0) (wrote_part w h) ∙ pairs_back ps f

@@ -1,30 +1,23 @@
 -- Session state records, by 01's "Quotes and session records". s is the record's bytes, kind its type.
-use Rattle.std.specs.Prelude.{ℕ, ◌+◌, Bool, cond, List, [], ◌∷◌, ◌++◌, length, ltb, eqb}
+use Rattle.refusal.specs.declared.Refusal.{Refusal}
+use Rattle.std.specs.Prelude.{ℕ, ◌+◌, Bool, cond, List, [], ◌∷◌, ◌++◌, length, ltb, eqb, Result, Ok, Err, Option, Some, None}
 use Rattle.refusal.specs.Number.{number}
 use Rattle.refusal.specs.Said.{Said, gives, refused, check, and_then}
 use Rattle.wire.specs.LenEnc.{str_at, part_of, str_bytes}
-use Rattle.wire.specs.declared.LenEncStr.{LenEncStr}
-use Rattle.session.specs.declared.Text.{Text}
+use Rattle.wire.specs.declared.Text.{Text}
 use Rattle.session.specs.declared.SystemVariable.{SystemVariable}
 use Rattle.session.specs.declared.SessionStateChange.{SessionStateChange}
 use Rattle.session.specs.declared.SessionStateChange.TheVariants as Of
 use Rattle.session.specs.declared.Record.{Record}
-use Rattle.session.specs.declared.ReadRecord.{ReadRecord}
-use Rattle.session.specs.declared.ReadRecord.TheVariants as R
-use Rattle.session.specs.declared.ReadVariable.{ReadVariable}
-use Rattle.session.specs.declared.ReadVariable.TheVariants as Var
 
 -- ---- a record
 
--- a part of the record, and how many bytes were used
-abbrev pub text_of : LenEncStr → Text
-text_of p = record { at = p.at; len = p.len }
-
+-- what a record says, and how many bytes were used
 abbrev pub record_of : SessionStateChange → ℕ → Record
 record_of change used = record { change = change; used = used }
 
 -- a record that is one string: "Bytes behind one string are left unread"
-abbrev pub one_string : (LenEncStr → SessionStateChange) → List ℕ → Said Record
+abbrev pub one_string : (Text → SessionStateChange) → List ℕ → Said Record
 one_string f s = and_then (str_at s 0) (λ p. gives (record_of (f p) (p.at + p.len)))
 
 -- all the bytes
@@ -42,16 +35,12 @@ is_one (b ∷ c ∷ bs) = Bool.false
 unfoldable pub record_at : List ℕ → ℕ → Said Record
 record_at s kind =
     cond (eqb kind 0) (gives (record_of Of.SystemVariables 0))
-    (cond (eqb kind 1) (one_string (λ p. Of.Schema (text_of p)) s)
+    (cond (eqb kind 1) (one_string Of.Schema s)
     (cond (eqb kind 2) (one_string (λ p. Of.IsTracked (is_one (part_of s p.at p.len))) s)
     (cond (eqb kind 3) (gives (record_of (Of.Gtids (whole s)) (length s)))
-    (cond (eqb kind 4) (one_string (λ p. Of.TransactionCharacteristics (text_of p)) s)
-    (cond (eqb kind 5) (one_string (λ p. Of.TransactionState (text_of p)) s)
+    (cond (eqb kind 4) (one_string Of.TransactionCharacteristics s)
+    (cond (eqb kind 5) (one_string Of.TransactionState s)
     (gives (record_of (Of.Unsupported (whole s)) (length s))))))))
-
-abbrev pub record_said : ReadRecord → Said Record
-record_said (R.Done r) = gives r
-record_said (R.Refused r) = refused (number r)
 
 -- ---- the pairs of a record of variables, by cursor
 
@@ -60,7 +49,7 @@ abbrev pub pair_at : List ℕ → ℕ → Said SystemVariable
 pair_at s at =
     and_then (str_at s at) (λ n.
     and_then (str_at s (n.at + n.len)) (λ v.
-    gives (record { name = text_of n; value = text_of v; next = v.at + v.len })))
+    gives (record { name = n; value = v; next = v.at + v.len })))
 
 -- what a call finds: the end, or a pair
 pub data Found : Type 0 where
@@ -71,10 +60,10 @@ pub data Found : Type 0 where
 unfoldable pub variable_at : List ℕ → ℕ → Said Found
 variable_at s at = cond (eqb at (length s)) (gives end) (check (ltb at (length s)) 8 (and_then (pair_at s at) (λ v. gives (pair v))))
 
-abbrev pub variable_said : ReadVariable → Said Found
-variable_said Var.End = gives end
-variable_said (Var.Pair v) = gives (pair v)
-variable_said (Var.Refused r) = refused (number r)
+abbrev pub variable_said : Result (Option SystemVariable) Refusal → Said Found
+variable_said (Ok None) = gives end
+variable_said (Ok (Some v)) = gives (pair v)
+variable_said (Err r) = refused (number r)
 
 -- ---- as they are written
 

@@ -1,15 +1,14 @@
 -- The straight-through reader of plain chunks, by request W7, over a piece size m of 1 to M: what one call answers, uses and leaves. It keeps
 -- numbers only; payload is handed back as a part of the bytes lent, u.
-use Rattle.std.specs.Prelude.{ℕ, ◌+◌, ◌-◌, Bool, true, false, cond, not, List, [], ◌∷◌, ◌++◌, length, take, ◌==◌, nat_le, nat_lt, slice_index}
+use Rattle.chunk.specs.declared.Decoded.{Decoded}
+use Rattle.stream.specs.declared.Piece.{Piece}
+use Rattle.refusal.specs.declared.Refusal.{Refusal}
+use Rattle.std.specs.Prelude.{ℕ, ◌+◌, ◌-◌, Bool, true, false, cond, not, List, [], ◌∷◌, ◌++◌, length, take, ◌==◌, nat_le, nat_lt, slice_index, Result, Ok, Err, Option, None, Some}
 use Rattle.refusal.specs.Number.{number}
 use Rattle.wire.specs.Le.{le_at}
 use Rattle.chunk.specs.Chunks.{next}
+use Rattle.chunk.specs.Read.{Opening, opens, refuses}
 use Rattle.stream.specs.declared.Stream.{Stream}
-use Rattle.stream.specs.declared.Opened.{Opened}
-use Rattle.stream.specs.declared.Opened.TheVariants as O
-use Rattle.stream.specs.declared.Answer.{Answer}
-use Rattle.stream.specs.declared.Answer.TheVariants as A
-use Rattle.stream.specs.declared.Passed.{Passed}
 
 -- ---- states: any record of this shape is one. What is not named in an update stays
 
@@ -118,10 +117,10 @@ pub data Answered : Type 0 where
   part : (at len : ℕ) (ends : Bool) → Answered
   refused : (number : ℕ) → Answered
 
-abbrev pub answer_said : Answer → Answered
-answer_said A.NeedMore = need_more
-answer_said (A.Part at len ends) = part at len ends
-answer_said (A.Refused r) = refused (number r)
+abbrev pub answer_said : Result (Option Piece) Refusal → Answered
+answer_said (Ok None) = need_more
+answer_said (Ok (Some p)) = part p.at p.len p.ends
+answer_said (Err r) = refused (number r)
 
 -- a call: its answer, the bytes used, and what the state is then
 pub record Done : Type 0 where
@@ -129,23 +128,15 @@ pub record Done : Type 0 where
   pub used : ℕ
   pub next : Stream
 
-abbrev pub done_of : Passed → Done
+abbrev pub done_of : Decoded Piece Stream → Done
 done_of r = record { answer = answer_said r.answer; used = r.used; next = r.next }
 
 -- ---- an opening: as that of the waiting reader
 
-pub data Opening : Type 0 where
-  opens : Stream → Opening
-  refuses : (number : ℕ) → Stream → Opening
-
-unfoldable pub opening : ℕ → Opening
+unfoldable pub opening : ℕ → Opening Stream
 opening limit =
     cond (limit == 0) (refuses 1 (closed (idle limit 0)))
     (cond (nat_lt 1073741824 limit) (refuses 1 (closed (idle limit 0))) (opens (idle limit 0)))
-
-abbrev pub opened_said : Opened → Opening
-opened_said (O.Open st) = opens st
-opened_said (O.Refused r st) = refuses (number r) st
 
 -- ---- one call
 

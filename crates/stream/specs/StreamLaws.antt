@@ -1,5 +1,7 @@
 -- Laws of the straight-through reader: each case of a call by itself, how many bytes it uses, and what a state keeps of a header.
-use Rattle.std.specs.Prelude.{◌≡◌, ℕ, ◌+◌, ◌-◌, ◌<◌, ◌≤◌, Bool, true, false, not, List, [], ◌∷◌, ◌++◌, length, take, ◌==◌, ◌≢◌, nat_le, nat_lt, slice_index, refl}
+use Rattle.stream.specs.declared.Piece.{Piece}
+use Rattle.refusal.specs.declared.Refusal.{Refusal}
+use Rattle.std.specs.Prelude.{◌≡◌, ℕ, ◌+◌, ◌-◌, ◌<◌, ◌≤◌, Bool, true, false, not, List, [], ◌∷◌, ◌++◌, length, take, ◌==◌, ◌≢◌, nat_le, nat_lt, slice_index, refl, Result, Ok, Err, Option, Some, None}
 use Rattle.std.proofs.Common.{sym, ap, ◌∙◌, arith, length-take, length-append}
 use Rattle.std.proofs.Math.Decide.{dec_le}
 use borrow.Author.Tests.{eqb-true, eqb-false, ltb-false, leb-true, lt-ltb, le-ltb, le-leb, lt-leb, eq-eqb, ne_eqb}
@@ -7,8 +9,6 @@ use Rattle.refusal.specs.Number.{number_same}
 use Rattle.wire.specs.Le.{le_at}
 use Rattle.chunk.specs.ReadLaws.{by_test}
 use Rattle.stream.specs.declared.Stream.{Stream}
-use Rattle.stream.specs.declared.Answer.{Answer}
-use Rattle.stream.specs.declared.Answer.TheVariants as A
 use Rattle.stream.specs.Stream.{closed, kept, keeping, begun, further, ended}
 use Rattle.stream.specs.Stream.{need_more, part, refused, answer_said, Done, refuse, payload, numbered, headed, header, pass}
 
@@ -193,16 +193,17 @@ pass_takes m st u =
 
 -- ---- what an answer says determines it
 
-pub answer_same : (a a' : Answer) → answer_said a ≡ answer_said a' → a ≡ a'
-answer_same A.NeedMore A.NeedMore e = refl
-answer_same A.NeedMore (A.Part at n t) e = cc e
-answer_same A.NeedMore (A.Refused r) e = cc e
-answer_same (A.Part at n t) A.NeedMore e = cc e
-answer_same (A.Part at n t) (A.Part at' n' t') e = same_part (cc e) (cc e) (cc e)
-  where
-    same_part : at ≡ at' → n ≡ n' → t ≡ t' → A.Part at n t ≡ A.Part at' n' t'
-    same_part x y z = rw (x, y, z)
-answer_same (A.Part at n t) (A.Refused r) e = cc e
-answer_same (A.Refused r) A.NeedMore e = cc e
-answer_same (A.Refused r) (A.Part at n t) e = cc e
-answer_same (A.Refused r) (A.Refused r') e = ap A.Refused (number_same r r' (cc e))
+piece_same : {at at' len len' : ℕ} {ends ends' : Bool} → at ≡ at' → len ≡ len' → ends ≡ ends'
+    → ◌≡◌ {A = Piece} (record { at = at; len = len; ends = ends }) (record { at = at'; len = len'; ends = ends' })
+piece_same e f g = rw (e, f, g)
+
+pub answer_same : (a a' : Result (Option Piece) Refusal) → answer_said a ≡ answer_said a' → a ≡ a'
+answer_same (Ok None) (Ok None) e = refl
+answer_same (Ok None) (Ok (Some p)) e = cc e
+answer_same (Ok None) (Err r) e = cc e
+answer_same (Ok (Some p)) (Ok None) e = cc e
+answer_same (Ok (Some p)) (Ok (Some q)) e = ap (λ (x : Piece). Ok (Some x)) (piece_same (cc e) (cc e) (cc e))
+answer_same (Ok (Some p)) (Err r) e = cc e
+answer_same (Err r) (Ok None) e = cc e
+answer_same (Err r) (Ok (Some p)) e = cc e
+answer_same (Err r) (Err r') e = ap Err (number_same r r' (cc e))

@@ -5,9 +5,10 @@
 
 ghost use Rattle.std.specs.Prelude.{◌≡◌};
 ghost use Rattle.chunk.specs.Chunks.{largest};
-ghost use Rattle.stream.specs.Stream.{opening, opened_said, done_of, pass, renumbered};
+ghost use Rattle.chunk.specs.Read.{opened_said};
+ghost use Rattle.stream.specs.Stream.{opening, done_of, pass, renumbered};
 
-use chunk::MAX_LIMIT;
+use chunk::{Decoded, MAX_LIMIT, Shut};
 use reader::{close, header, payload, refuse};
 use refusal::Refusal;
 
@@ -15,7 +16,7 @@ mod reader;
 
 // The state of the reader. `taken` counts the bytes of the current packet up to its current chunk's end, `left` those of the chunk
 // that are to come; `full`: that chunk has M bytes. Of a header that came in part, `got` bytes are kept: first, second and third.
-#[derive(Clone, Copy)]
+#[derive(Clone, Copy, PartialEq, Eq)]
 pub struct Stream {
     pub limit: usize,
     pub taken: usize,
@@ -29,31 +30,17 @@ pub struct Stream {
     pub closed: bool,
 }
 
-// A state to begin with. A refused opening gives a closed one.
-#[derive(Clone, Copy)]
-pub enum Opened {
-    Open(Stream),
-    Refused(Refusal, Stream),
-}
-
-// What a call answers: a part of the lent bytes by place and length, and whether a packet ends with it.
-#[derive(Clone, Copy)]
-pub enum Answer {
-    NeedMore,
-    Part(usize, usize, bool),
-    Refused(Refusal),
-}
-
-// The answer, the bytes used and the state then.
-#[derive(Clone, Copy)]
-pub struct Passed {
-    pub answer: Answer,
-    pub used: usize,
-    pub next: Stream,
+// A part of the lent bytes, and whether a packet ends with it.
+#[derive(Clone, Copy, PartialEq, Eq)]
+pub struct Piece {
+    pub at: usize,
+    pub len: usize,
+    pub ends: bool,
 }
 
 // Opens a stream of packets of at most `limit` bytes each.
-pub fn opening(limit: usize) -> Opened
+#[tactic(auto, unfolding(crate::specs::Stream::opening))]
+pub fn opening(limit: usize) -> Result<Stream, Shut<Stream>>
     ensures { opened_said result ≡ opening limit }
 {
     let stream = Stream {
@@ -68,13 +55,13 @@ pub fn opening(limit: usize) -> Opened
         full: false,
         closed: false,
     };
-    if limit == 0 {
-        return Opened::Refused(Refusal::BadLimit, close(stream));
+    if limit == 0 || MAX_LIMIT < limit {
+        return Err(Shut {
+            why: Refusal::BadLimit,
+            state: close(stream),
+        });
     }
-    if MAX_LIMIT < limit {
-        return Opened::Refused(Refusal::BadLimit, close(stream));
-    }
-    Opened::Open(stream)
+    Ok(stream)
 }
 
 // The next chunk has this number.
@@ -86,15 +73,16 @@ pub fn renumber(mut stream: Stream, number: u8) -> Stream
 }
 
 // Takes lent bytes up to one chunk's end, header bytes included. Unless all are used the rest is to be lent again.
-pub fn pass(stream: Stream, src: &[u8]) -> Passed
+#[tactic(auto, unfolding(crate::specs::Stream::pass))]
+pub fn pass(stream: Stream, src: &[u8]) -> Decoded<Piece, Stream>
     ensures { done_of result ≡ pass largest stream src.now }
 {
     if stream.closed {
         return refuse(Refusal::Closed, stream);
     }
-    if src.len() == 0 {
-        return Passed {
-            answer: Answer::NeedMore,
+    if src.is_empty() {
+        return Decoded {
+            answer: Ok(None),
             used: 0,
             next: stream,
         };

@@ -5,9 +5,9 @@ ghost use Rattle.wire.specs.Le.{le_at};
 ghost use Rattle.chunk.specs.Chunks.{largest};
 ghost use Rattle.stream.specs.Stream.{closed, kept, keeping, begun, ended, done_of, refuse, payload, numbered, headed, header};
 
-use crate::{Answer, Passed, Stream};
-use chunk::MAX_PAYLOAD_LEN;
+use crate::{Piece, Stream};
 use chunk::inner::exceeds;
+use chunk::{Decoded, MAX_PAYLOAD_LEN};
 use refusal::Refusal;
 use wire::inner::le;
 
@@ -18,70 +18,80 @@ pub(crate) fn close(mut st: Stream) -> Stream
     st
 }
 
-pub(crate) fn refuse(why: Refusal, st: Stream) -> Passed
+pub(crate) fn refuse(why: Refusal, st: Stream) -> Decoded<Piece, Stream>
     ensures { done_of result ≡ refuse (number why) st }
 {
-    Passed {
-        answer: Answer::Refused(why),
+    Decoded {
+        answer: Err(why),
         used: 0,
         next: st,
     }
 }
 
 // Behind the header of a chunk.
+#[tactic(auto, unfolding(chunk::specs::Chunks::next))]
 fn begin(st: Stream, len: usize, num: u8) -> Stream
     requires { st.taken + len < 0x1_0000_0000_0000_0000 }
     ensures { result ≡ begun largest st len num }
 {
     Stream {
-        limit: st.limit,
         taken: st.taken + len,
         left: len,
         got: 0,
         first: 0,
         second: 0,
         third: 0,
-        number: std::num::wrapping_add_u8(num, 1),
+        number: num.wrapping_add(1),
         full: len == MAX_PAYLOAD_LEN,
-        closed: st.closed,
+        ..st
     }
 }
 
 // At the end of a chunk. Behind a full one the packet goes on.
-fn end(mut st: Stream) -> Stream
+fn end(st: Stream) -> Stream
     ensures { result ≡ ended st }
 {
-    st.left = 0;
-    if st.full {
-        st.full = false;
-        return st;
+    Stream {
+        taken: if st.full { st.taken } else { 0 },
+        left: 0,
+        full: false,
+        ..st
     }
-    st.taken = 0;
-    st
 }
 
 // Payload of which n bytes are lent from a place on: none of them is looked at.
-pub(crate) fn payload(st: Stream, at: usize, n: usize) -> Passed
+#[tactic(auto, unfolding(crate::specs::Stream::payload))]
+pub(crate) fn payload(st: Stream, at: usize, n: usize) -> Decoded<Piece, Stream>
     requires { at + n < 0x8000_0000_0000_0000 }
     ensures { done_of result ≡ payload st at n }
 {
     if n < st.left {
-        let mut next = st;
-        next.left -= n;
-        return Passed {
-            answer: Answer::Part(at, n, false),
+        return Decoded {
+            answer: Ok(Some(Piece {
+                at,
+                len: n,
+                ends: false,
+            })),
             used: at + n,
-            next,
+            next: Stream {
+                left: st.left - n,
+                ..st
+            },
         };
     }
-    Passed {
-        answer: Answer::Part(at, st.left, !st.full),
+    Decoded {
+        answer: Ok(Some(Piece {
+            at,
+            len: st.left,
+            ends: !st.full,
+        })),
         used: at + st.left,
         next: end(st),
     }
 }
 
-fn numbered(st: Stream, len: usize, num: u8, at: usize, n: usize) -> Passed
+#[tactic(auto, unfolding(crate::specs::Stream::numbered))]
+fn numbered(st: Stream, len: usize, num: u8, at: usize, n: usize) -> Decoded<Piece, Stream>
     requires { (st.taken + len < 0x1_0000_0000_0000_0000) × (at + n < 0x8000_0000_0000_0000) }
     ensures { done_of result ≡ numbered largest st len num at n }
 {
@@ -92,14 +102,12 @@ fn numbered(st: Stream, len: usize, num: u8, at: usize, n: usize) -> Passed
 }
 
 // A header that is complete: its length, then its number.
-fn headed(st: Stream, len: usize, num: u8, at: usize, n: usize) -> Passed
+#[tactic(auto, unfolding(crate::specs::Stream::headed))]
+fn headed(st: Stream, len: usize, num: u8, at: usize, n: usize) -> Decoded<Piece, Stream>
     requires { at + n < 0x8000_0000_0000_0000 }
     ensures { done_of result ≡ headed largest st len num at n }
 {
-    if len == 0 {
-        return numbered(st, 0, num, at, n);
-    }
-    if exceeds(st.taken, len, st.limit) {
+    if len != 0 && exceeds(st.taken, len, st.limit) {
         return refuse(Refusal::TooLarge, close(st));
     }
     numbered(st, len, num, at, n)
@@ -109,35 +117,18 @@ fn headed(st: Stream, len: usize, num: u8, at: usize, n: usize) -> Passed
 fn kept_len(st: Stream) -> usize
     ensures { result ≡ length (kept st) }
 {
-    if 3 < st.got {
-        return 3;
-    }
-    st.got as usize
-}
-
-fn kept_byte(st: Stream, i: usize) -> u8
-    requires { i < length (kept st) }
-    ensures { result ≡ slice_index (kept st) i }
-{
-    match i {
-        0 => st.first,
-        1 => st.second,
-        _ => st.third,
-    }
+    (st.got as usize).min(3)
 }
 
 // Byte i of a header: a kept one, or a lent one behind them; 0 where it has not come.
 fn byte(st: Stream, src: &[u8], i: usize) -> u8
     ensures { result ≡ slice_index (kept st ++ src.now) i }
 {
-    let g = kept_len(st);
-    if i < g {
-        return kept_byte(st, i);
+    let got = kept_len(st);
+    if i < got {
+        return [st.first, st.second, st.third][i];
     }
-    if i - g < src.len() {
-        return src[i - g];
-    }
-    0
+    src.get(i - got).copied().unwrap_or(0)
 }
 
 // All that is there of a header, kept for the next call.
@@ -146,20 +137,16 @@ fn keep(st: Stream, src: &[u8]) -> Stream
     ensures { result ≡ keeping st (kept st ++ src.now) }
 {
     Stream {
-        limit: st.limit,
-        taken: st.taken,
-        left: st.left,
         got: (kept_len(st) + src.len()) as u8,
         first: byte(st, src, 0),
         second: byte(st, src, 1),
         third: byte(st, src, 2),
-        number: st.number,
-        full: st.full,
-        closed: st.closed,
+        ..st
     }
 }
 
 // The length in a header. Most come whole, and are read at once.
+#[tactic(auto, using(crate::proofs::Header::three_bytes))]
 fn header_len(st: Stream, src: &[u8]) -> usize
     requires { 4 ≤ length (kept st) + length src.now }
     ensures { result ≡ le_at (kept st ++ src.now) 0 3 }
@@ -167,18 +154,19 @@ fn header_len(st: Stream, src: &[u8]) -> usize
     if kept_len(st) == 0 {
         return le(src, 0, 3) as usize;
     }
-    let low = byte(st, src, 0) as usize;
-    low + byte(st, src, 1) as usize * 0x100 + byte(st, src, 2) as usize * 0x1_0000
+    let length = [byte(st, src, 0), byte(st, src, 1), byte(st, src, 2)];
+    le(&length, 0, 3) as usize
 }
 
 // Between two chunks.
-pub(crate) fn header(st: Stream, src: &[u8]) -> Passed
+#[tactic(auto, unfolding(crate::specs::Stream::header))]
+pub(crate) fn header(st: Stream, src: &[u8]) -> Decoded<Piece, Stream>
     ensures { done_of result ≡ header largest st src.now (kept st ++ src.now) }
 {
     let at = 4 - kept_len(st);
     if src.len() < at {
-        return Passed {
-            answer: Answer::NeedMore,
+        return Decoded {
+            answer: Ok(None),
             used: src.len(),
             next: keep(st, src),
         };

@@ -5,690 +5,524 @@
 // up on the fly: nothing of them is held.
 #![tactic(auto)]
 
-ghost use Rattle.std.specs.Prelude.{◌+◌, ◌<◌, ◌≤◌, length};
+ghost use Rattle.std.specs.Prelude.{◌≤◌};
 
-use chunk::{MAX_PAYLOAD_LEN, PlainPacketCodec};
-use refusal::number_of;
-use stream::{Answer, Opened, Stream};
-use wire::{Put, ReadNum, part};
-
-const STDOUT_FILENO: i32 = 1;
+use chunk::{MAX_LIMIT, MAX_PAYLOAD_LEN, PlainPacketCodec};
+use refusal::Refusal;
+use std::alloc::{AllocError, Global};
+use std::num::Saturating;
+use std::{io, mem};
+use stream::Stream;
+use wire::part;
 
 const SEED: usize = 1_920_717;
 
 const STREAMS: usize = 4_000;
 
-// ---- the generator: a number below 2^31 - 1 out of a stream's number, what it is for and a count
+// No chunk of a short stream is longer: it has a header of 4 bytes and a packet of at most 80.
+const CHUNK_ROOM: usize = 96;
 
-fn mixed(x: usize) -> usize
-    ensures { result < 2147483647 }
-{
-    let y = x % 2_147_483_647;
-    (y % 65_536 * 32_768 + y / 65_536) % 2_147_483_647 * 48_271 % 2_147_483_647
+// Long packets come in pieces of so many bytes.
+const PIECE: usize = 4096;
+
+// ---- the generator
+
+const MODULUS: usize = 2_147_483_647;
+
+fn mixed(x: usize) -> usize {
+    let y = x % MODULUS;
+    (y % 65_536 * 32_768 + y / 65_536) % MODULUS * 48_271 % MODULUS
 }
 
-fn draw(s: usize, what: usize, n: usize) -> usize
-    ensures { result < 2147483647 }
-{
-    let x = s % 2_147_483_647 * 48_271
-        + what % 2_147_483_647 * 104_729
-        + n % 2_147_483_647 * 69_621
-        + SEED;
-    mixed(mixed(x))
+// Numbers below the modulus, each out of a seed, a case, what it is for and a count.
+#[derive(Clone, Copy)]
+struct Draws {
+    seed: usize,
+    case: usize,
 }
 
-// ---- a stream
+impl Draws {
+    fn draw(self, what: usize, n: usize) -> usize {
+        let x = self.case % MODULUS * 48_271
+            + what % MODULUS * 104_729
+            + n % MODULUS * 69_621
+            + self.seed % MODULUS;
+        mixed(mixed(x))
+    }
 
-fn packets_of(s: usize) -> usize
-    ensures { result ≤ 24 }
-{
-    1 + draw(s, 1, 0) % 24
-}
-
-// The number that both readers start with.
-fn number_at(s: usize) -> usize
-    ensures { result < 256 }
-{
-    draw(s, 2, 0) % 256
-}
-
-// The limit of both readers.
-fn limit_of(s: usize) -> usize
-    ensures { result ≤ 64 }
-{
-    60 + draw(s, 3, 0) % 5
-}
-
-// Most packets are within the limit; some are empty, and some too large.
-fn len_of(s: usize, j: usize) -> usize
-    ensures { result ≤ 80 }
-{
-    match draw(s, 4, j) % 64 {
-        0 => 61 + draw(s, 5, j) % 20,
-        1 => 0,
-        2 => 0,
-        _ => draw(s, 5, j) % 61,
+    fn byte(self, what: usize, n: usize) -> u8 {
+        (self.draw(what, n) % 256) as u8
     }
 }
 
-// How far a chunk's number is from the right one: one was lost before it, it comes again, or it has any number.
-fn off_by(s: usize, j: usize) -> usize
-    ensures { result < 256 }
-{
-    match draw(s, 6, j) % 96 {
-        0 => 1,
-        1 => 255,
-        2 => draw(s, 7, j) % 256,
-        _ => 0,
+// ---- a short stream
+
+#[derive(Clone, Copy)]
+struct Short<'a> {
+    draws: Draws,
+    // The bytes of all packets.
+    pool: &'a [u8],
+}
+
+impl<'a> Short<'a> {
+    fn new(pool: &'a [u8], case: usize) -> Short<'a> {
+        Short {
+            draws: Draws { seed: SEED, case },
+            pool,
+        }
+    }
+
+    fn packets(&self) -> usize {
+        1 + self.draws.draw(1, 0) % 24
+    }
+
+    // The number that both readers start with.
+    fn number(&self) -> u8 {
+        self.draws.byte(2, 0)
+    }
+
+    // The limit of both readers.
+    fn limit(&self) -> usize {
+        60 + self.draws.draw(3, 0) % 5
+    }
+
+    // Most packets are within the limit; some are empty, and some too large.
+    fn packet(&self, j: usize) -> &[u8] {
+        let len = match self.draws.draw(4, j) % 64 {
+            0 => 61 + self.draws.draw(5, j) % 20,
+            1 | 2 => 0,
+            _ => self.draws.draw(5, j) % 61,
+        };
+        part(self.pool, self.draws.draw(8, j) % 900, len)
+    }
+
+    // Most have the right number; else one was lost before the chunk, it comes again, or it has any number.
+    fn number_of_chunk(&self, j: usize) -> u8 {
+        let off = match self.draws.draw(6, j) % 96 {
+            0 => 1,
+            1 => 255,
+            2 => self.draws.byte(7, j),
+            _ => 0,
+        };
+        let right = self.number().wrapping_add((j % 256) as u8);
+        right.wrapping_add(off)
+    }
+
+    // What arrives: each packet as one chunk. Every fourth stream is cut off near its end.
+    fn bytes(&self, alloc: Global) -> Result<Vec<u8>, AllocError> {
+        let mut bytes = Vec::new(alloc);
+        for j in 0..self.packets() {
+            let mut room = [0u8; CHUNK_ROOM];
+            let writer = idle(1000, self.number_of_chunk(j));
+            let sent = chunk::packet_to_chunks(&mut room, writer, self.packet(j));
+            bytes.extend_from_slice(part(&room, 0, sent.put.unwrap_or(0)))?;
+        }
+        if self.draws.case % 4 == 0 {
+            bytes.truncate(bytes.len() - bytes.len() / 8);
+        }
+        Ok(bytes)
+    }
+
+    // How long piece k is: pieces are up to 1 to 100 bytes long, and may be empty.
+    fn piece_len(&self, k: usize) -> usize {
+        self.draws.draw(10, k) % (2 + self.draws.draw(9, 0) % 100)
     }
 }
 
-fn number_of_chunk(s: usize, j: usize) -> u8
-    requires { j < 24 }
-{
-    ((number_at(s) + j + off_by(s, j)) % 256) as u8
-}
-
-fn plus(a: usize, b: usize) -> usize {
-    std::num::wrapping_add_usize(a, b)
-}
-
-fn minus(a: usize, b: usize) -> usize {
-    std::num::wrapping_sub_usize(a, b)
-}
-
-fn waiting_at(limit: usize, number: u8) -> PlainPacketCodec {
-    PlainPacketCodec {
-        limit,
-        taken: 0,
-        len: 0,
-        number,
-        waiting: false,
-        ahead: 0,
-        closed: false,
-    }
-}
-
-fn stream_at(limit: usize, number: u8) -> Stream {
-    match stream::opening(limit) {
-        Opened::Open(st) => stream::renumber(st, number),
-        Opened::Refused(_, st) => st,
-    }
-}
-
-// Packet j behind the bytes so far; how many there are then.
-fn write_one(line: &mut [u8], one: &mut [u8], pool: &[u8], s: usize, j: usize, at: usize) -> usize
-    requires { j < 24 }
-{
-    let packet = part(pool, draw(s, 8, j) % 900, len_of(s, j));
-    let sent = chunk::packet_to_chunks(one, waiting_at(1000, number_of_chunk(s, j)), packet);
-    let put = sent.put;
-    let n = match put {
-        Put::Next(n) => n,
-        Put::Refused(_) => 0,
-    };
-    wire::put_slice(line, at, part(one, 0, n));
-    plus(at, n)
-}
-
-// All chunks of a stream; how many bytes of them arrive. Every fourth stream is cut off near its end.
-fn write_all(line: &mut [u8], one: &mut [u8], pool: &[u8], s: usize) -> usize {
-    let many = packets_of(s);
-    let mut size = 0;
-    let mut j = 0;
-    while j < many {
-        size = write_one(line, one, pool, s, j, size);
-        j += 1;
-    }
-    if s % 4 == 0 {
-        return size - size / 8;
-    }
-    size
+// A codec that has read and written nothing.
+fn idle(limit: usize, number: u8) -> PlainPacketCodec {
+    let codec = chunk::opening(limit).unwrap_or_else(|shut| shut.state);
+    PlainPacketCodec { number, ..codec }
 }
 
 // ---- what a reader has shown
 
-// A checksum with one byte more.
-fn with_byte(sum: usize, b: u8) -> usize
-    requires { sum < 2147483647 }
-    ensures { result < 2147483647 }
-{
-    (sum * 257 + b as usize + 1) % 2_147_483_647
+// A packet, or what has come of it: a checksum of its bytes, and how many they are.
+#[derive(Clone, Copy, Default, PartialEq, Eq)]
+struct Packet {
+    sum: u32,
+    len: usize,
 }
 
-// The checksum with all bytes of a part.
-fn summed(bytes: &[u8], first: usize) -> usize
-    requires { first < 2147483647 }
-    ensures { result < 2147483647 }
-{
-    let mut sum = first;
-    let mut i = 0;
-    while i < bytes.len() {
-        sum = with_byte(sum, bytes[i]);
-        i += 1;
+impl Packet {
+    fn add(&mut self, byte: u8) {
+        let sum = self.sum as usize * 257 + usize::from(byte) + 1;
+        self.sum = (sum % MODULUS) as u32;
+        self.len = self.len.saturating_add(1);
     }
-    sum
+
+    fn add_all(&mut self, bytes: &[u8]) {
+        for b in bytes {
+            self.add(*b);
+        }
+    }
 }
 
-// The bytes before `at` are used. `sum` and `len` are the last packet's checksum and length, and `digest` is of those of all packets so
-// far. `refusal` is the number of the first one, 0 while there is none; `right` while each later call is refused with 7.
-#[derive(Clone, Copy)]
+// The bytes before `at` are used. `digest` is of all packets so far; something is `amiss` once a refusal behind the first one says anything
+// else than that the reader is closed.
+#[derive(Clone, Copy, Default)]
 struct Shown {
     at: usize,
-    packets: usize,
-    sum: usize,
-    len: usize,
+    packets: Saturating<usize>,
+    last: Packet,
     digest: usize,
-    refusal: usize,
-    right: bool,
+    refusal: Option<Refusal>,
+    amiss: bool,
 }
 
-fn nothing() -> Shown {
-    Shown {
-        at: 0,
-        packets: 0,
-        sum: 0,
-        len: 0,
-        digest: 0,
-        refusal: 0,
-        right: true,
+impl Shown {
+    fn hand(&mut self, packet: Packet) {
+        self.packets += 1;
+        self.last = packet;
+        let digest = self.digest % MODULUS * 257 + packet.sum as usize * 7;
+        self.digest = mixed(digest.saturating_add(packet.len));
+    }
+
+    fn refuse(&mut self, why: Refusal) {
+        match self.refusal {
+            None => self.refusal = Some(why),
+            Some(_) => self.amiss |= why != Refusal::Closed,
+        }
+    }
+
+    // A call's answer: what it handed out.
+    fn answer<T>(&mut self, used: usize, answer: Result<Option<T>, Refusal>) -> Option<T> {
+        self.at = self.at.saturating_add(used);
+        match answer {
+            Ok(out) => out,
+            Err(why) => {
+                self.refuse(why);
+                None
+            }
+        }
     }
 }
 
-fn with_packet(mut h: Shown, sum: usize, len: usize) -> Shown {
-    h.packets = plus(h.packets, 1);
-    h.sum = sum;
-    h.len = len;
-    h.digest = mixed(plus(
-        h.digest % 2_147_483_647 * 257,
-        plus(sum % 2_147_483_647 * 7, len),
-    ));
-    h
+trait Reader {
+    // How many of the bytes that have come are used.
+    fn at(&self) -> usize;
+
+    // One call, on the unread bytes. Answers whether something was handed out: there may be more then.
+    fn call(&mut self, unread: &[u8]) -> bool;
 }
 
-fn with_refusal(mut h: Shown, number: usize) -> Shown {
-    if h.refusal == 0 {
-        h.refusal = number;
-        return h;
+// Calls on the bytes that have come, until nothing more is handed out; so many there never are.
+fn drain<R: Reader>(reader: &mut R, come: &[u8]) {
+    for _ in 0..10_000 {
+        let at = reader.at();
+        if !reader.call(come.get(at..).unwrap_or_default()) {
+            return;
+        }
     }
-    h.right = h.right && number == 7;
-    h
 }
 
-// ---- the straight-through reader
-
-// Of the packet that has not ended: its checksum and its length so far. `more` while a call took bytes.
-#[derive(Clone, Copy)]
+// The straight-through reader, with what has come of the packet that has not ended.
+#[derive(Drop)]
 struct Straight {
     stream: Stream,
     shown: Shown,
-    sum: usize,
-    len: usize,
-    parts: usize,
-    calls: usize,
-    more: bool,
+    packet: Packet,
+    parts: Saturating<usize>,
+    calls: Saturating<usize>,
 }
 
-fn with_part(h: Straight, bytes: &[u8], ends: bool) -> Straight {
-    let stream = h.stream;
-    let sum = summed(bytes, h.sum % 2_147_483_647);
-    let len = plus(h.len, bytes.len());
-    if ends {
-        return Straight {
-            stream,
-            shown: with_packet(h.shown, sum, len),
-            sum: 0,
-            len: 0,
-            parts: plus(h.parts, 1),
-            calls: h.calls,
-            more: true,
-        };
-    }
-    let shown = h.shown;
-    Straight {
-        stream,
-        shown,
-        sum,
-        len,
-        parts: plus(h.parts, 1),
-        calls: h.calls,
-        more: true,
-    }
-}
-
-fn without_part(h: Straight, shown: Shown) -> Straight {
-    let stream = h.stream;
-    Straight {
-        stream,
-        shown,
-        sum: h.sum,
-        len: h.len,
-        parts: h.parts,
-        calls: h.calls,
-        more: false,
-    }
-}
-
-// One call on the unread bytes.
-fn pass_once(unread: &[u8], h: Straight) -> Straight {
-    let got = stream::pass(h.stream, unread);
-    let answer = got.answer;
-    let next = got.next;
-    let mut shown = h.shown;
-    shown.at = plus(shown.at, got.used);
-    let then = Straight {
-        stream: next,
-        shown,
-        sum: h.sum,
-        len: h.len,
-        parts: h.parts,
-        calls: plus(h.calls, 1),
-        more: false,
-    };
-    match answer {
-        Answer::NeedMore => without_part(then, shown),
-        Answer::Part(at, n, ends) => with_part(then, part(unread, at, n), ends),
-        Answer::Refused(why) => without_part(then, with_refusal(shown, number_of(why) as usize)),
-    }
-}
-
-// Calls until the piece is used up; so many there never are.
-fn pass_piece(bytes: &[u8], got: usize, first: Straight) -> Straight {
-    let mut h = first;
-    let mut k: usize = 0;
-    while k < 10_000 {
-        h = pass_once(part(bytes, h.shown.at, minus(got, h.shown.at)), h);
-        if !h.more {
-            return h;
+impl Straight {
+    fn new(limit: usize, number: u8) -> Straight {
+        let stream = stream::opening(limit).unwrap_or_else(|shut| shut.state);
+        Straight {
+            stream: stream::renumber(stream, number),
+            shown: Shown::default(),
+            packet: Packet::default(),
+            parts: Saturating(0),
+            calls: Saturating(0),
         }
-        k += 1;
     }
-    h
 }
 
-// ---- the waiting reader
+impl Reader for Straight {
+    fn at(&self) -> usize {
+        self.shown.at
+    }
 
-#[derive(Clone, Copy)]
+    fn call(&mut self, unread: &[u8]) -> bool {
+        let got = stream::pass(self.stream, unread);
+        self.stream = got.next;
+        self.calls += 1;
+        let Some(piece) = self.shown.answer(got.used, got.answer) else {
+            return false;
+        };
+        self.parts += 1;
+        self.packet.add_all(part(unread, piece.at, piece.len));
+        if piece.ends {
+            self.shown.hand(mem::take(&mut self.packet));
+        }
+        true
+    }
+}
+
+// The waiting reader, whose buffer is as long as its limit.
+#[derive(Drop)]
 struct Waiting {
     codec: PlainPacketCodec,
+    buffer: Vec<u8>,
     shown: Shown,
-    more: bool,
 }
 
-fn wait_once(dst: &mut [u8], unread: &[u8], h: Waiting) -> Waiting {
-    let got = chunk::decode(dst, h.codec, unread);
-    let answer = got.answer;
-    let next = got.next;
-    let mut shown = h.shown;
-    shown.at = plus(shown.at, got.used);
-    match answer {
-        chunk::Answer::NeedMore => Waiting {
-            codec: next,
-            shown,
-            more: false,
-        },
-        chunk::Answer::Packet(n) => Waiting {
-            codec: next,
-            shown: with_packet(shown, summed(part(dst, 0, n), 0), n),
-            more: true,
-        },
-        chunk::Answer::Refused(why) => Waiting {
-            codec: next,
-            shown: with_refusal(shown, number_of(why) as usize),
-            more: false,
-        },
+impl Waiting {
+    fn new(alloc: Global, limit: usize, number: u8) -> Result<Waiting, AllocError> {
+        Ok(Waiting {
+            codec: idle(limit, number),
+            buffer: vec![in alloc; 0; limit]?,
+            shown: Shown::default(),
+        })
     }
 }
 
-fn wait_piece(dst: &mut [u8], bytes: &[u8], got: usize, first: Waiting) -> Waiting {
-    let mut h = first;
-    let mut k: usize = 0;
-    while k < 10_000 {
-        h = wait_once(dst, part(bytes, h.shown.at, minus(got, h.shown.at)), h);
-        if !h.more {
-            return h;
-        }
-        k += 1;
+impl Reader for Waiting {
+    fn at(&self) -> usize {
+        self.shown.at
     }
-    h
+
+    fn call(&mut self, unread: &[u8]) -> bool {
+        let got = chunk::decode(&mut self.buffer, self.codec, unread);
+        self.codec = got.next;
+        let Some(len) = self.shown.answer(got.used, got.answer) else {
+            return false;
+        };
+        let mut packet = Packet::default();
+        packet.add_all(part(&self.buffer, 0, len));
+        self.shown.hand(packet);
+        true
+    }
 }
 
 // ---- side by side
 
-#[derive(Clone, Copy)]
-struct Pair {
-    straight: Straight,
-    waiting: Waiting,
-    pieces: usize,
-    sooner: usize,
-    right: bool,
+enum Verdict {
+    Same,
+    // The straight-through reader has refused sooner, as out of sync, a chunk that the waiting one has the header of and not yet the
+    // whole.
+    Sooner,
+    Differs,
 }
 
 // Whether the bytes begin with a header, and the chunk is not whole.
 fn is_begun(unread: &[u8]) -> bool {
-    if unread.len() < 4 {
+    let Some(payload) = unread.get(4..) else {
         return false;
-    }
-    match wire::checked_eat_u24_le(unread, 0) {
-        ReadNum::Done(n) => unread.len() < plus(n.value as usize, 4),
-        ReadNum::Refused(_) => false,
-    }
-}
-
-// Both have seen the same bytes: 0 where they have shown the same, 1 where the straight-through one has refused sooner, with 3, a
-// chunk that the waiting one has the header of and not yet the whole, and 2 where they differ.
-fn compare(a: Shown, b: Shown, unread: &[u8]) -> usize {
-    if a.packets != b.packets || a.digest != b.digest {
-        return 2;
-    }
-    if !a.right || !b.right {
-        return 2;
-    }
-    if a.refusal == b.refusal {
-        return 0;
-    }
-    if a.refusal == 3 && b.refusal == 0 && is_begun(unread) {
-        return 1;
-    }
-    2
-}
-
-fn take_piece(dst: &mut [u8], bytes: &[u8], got: usize, p: Pair) -> Pair {
-    let straight = pass_piece(bytes, got, p.straight);
-    let waiting = wait_piece(dst, bytes, got, p.waiting);
-    let a = straight.shown;
-    let b = waiting.shown;
-    let verdict = compare(a, b, part(bytes, b.at, minus(got, b.at)));
-    Pair {
-        straight,
-        waiting,
-        pieces: plus(p.pieces, 1),
-        sooner: plus(p.sooner, verdict % 2),
-        right: p.right && verdict != 2,
-    }
-}
-
-// How many bytes have come with piece k: pieces are up to 1 to 100 bytes long, and may be empty.
-fn more(s: usize, k: usize, got: usize, size: usize) -> usize {
-    let n = draw(s, 10, k) % (2 + draw(s, 9, 0) % 100);
-    if size <= got {
-        return size;
-    }
-    if size - got <= n {
-        return size;
-    }
-    got + n
-}
-
-fn straight_at(limit: usize, number: u8) -> Straight {
-    Straight {
-        stream: stream_at(limit, number),
-        shown: nothing(),
-        sum: 0,
-        len: 0,
-        parts: 0,
-        calls: 0,
-        more: true,
-    }
-}
-
-fn first_pair(s: usize) -> Pair {
-    let number = (number_at(s) % 256) as u8;
-    let limit = limit_of(s);
-    Pair {
-        straight: straight_at(limit, number),
-        waiting: Waiting {
-            codec: waiting_at(limit, number),
-            shown: nothing(),
-            more: true,
-        },
-        pieces: 0,
-        sooner: 0,
-        right: true,
-    }
-}
-
-// All pieces, and an empty one at the end. So many there never are: that would differ.
-fn serve(dst: &mut [u8], bytes: &[u8], s: usize, size: usize) -> Pair {
-    let mut p = first_pair(s);
-    let mut got = 0;
-    let mut k = 0;
-    while k < 10_000 {
-        if got == size {
-            return take_piece(dst, bytes, got, p);
-        }
-        got = more(s, k, got, size);
-        p = take_piece(dst, bytes, got, p);
-        k += 1;
-    }
-    p.right = false;
-    p
-}
-
-// ---- what all streams come to
-
-#[derive(Clone, Copy)]
-struct Counts {
-    written: usize,
-    pieces: usize,
-    calls: usize,
-    parts: usize,
-    packets: usize,
-    large: usize,
-    wrong: usize,
-    sooner: usize,
-    differences: usize,
-}
-
-fn say(what: &[u8], n: usize) {
-    io::write_all(STDOUT_FILENO, what);
-    io::print_decimal(STDOUT_FILENO, n as u64);
-    io::write_all(STDOUT_FILENO, b"\n");
-}
-
-// 1 for a stream that differs, and says which.
-fn differs(right: bool, s: usize) -> usize {
-    if right {
-        return 0;
-    }
-    say(b"differs: stream ", s);
-    1
-}
-
-fn one_if(t: bool) -> usize {
-    if t { 1 } else { 0 }
-}
-
-fn with_stream(s: usize, p: Pair, t: Counts) -> Counts {
-    let h = p.straight;
-    let shown = h.shown;
-    Counts {
-        written: plus(t.written, packets_of(s)),
-        pieces: plus(t.pieces, p.pieces),
-        calls: plus(t.calls, h.calls),
-        parts: plus(t.parts, h.parts),
-        packets: plus(t.packets, shown.packets),
-        large: plus(t.large, one_if(shown.refusal == 2)),
-        wrong: plus(t.wrong, one_if(shown.refusal == 3)),
-        sooner: plus(t.sooner, one_if(0 < p.sooner)),
-        differences: plus(t.differences, differs(p.right, s)),
-    }
-}
-
-// The waiting reader's buffer is as long as the limit.
-fn run_stream(
-    line: &mut [u8],
-    dst: &mut [u8],
-    one: &mut [u8],
-    pool: &[u8],
-    s: usize,
-    t: Counts,
-) -> Counts {
-    let n = limit_of(s);
-    if dst.len() < n {
-        return t;
-    }
-    let size = write_all(line, one, pool, s);
-    let p = serve(&mut dst[..n], line, s, size);
-    with_stream(s, p, t)
-}
-
-fn run_streams(line: &mut [u8], dst: &mut [u8], one: &mut [u8], pool: &[u8]) -> Counts {
-    let mut t = Counts {
-        written: 0,
-        pieces: 0,
-        calls: 0,
-        parts: 0,
-        packets: 0,
-        large: 0,
-        wrong: 0,
-        sooner: 0,
-        differences: 0,
     };
-    let mut s = 0;
-    while s < STREAMS {
-        t = run_stream(line, dst, one, pool, s, t);
-        s += 1;
-    }
-    t
+    wire::checked_eat_u24_le(unread, 0).is_ok_and(|n| (payload.len() as u64) < n.value)
 }
 
-// The bytes of all packets.
-fn fill(pool: &mut [u8]) {
-    let mut i = 0;
-    while i < pool.len() {
-        pool[i] = (draw(0, 11, i) % 256) as u8;
-        i += 1;
+#[derive(Drop)]
+struct Pair {
+    straight: Straight,
+    waiting: Waiting,
+    pieces: Saturating<usize>,
+    sooner: bool,
+    right: bool,
+}
+
+impl Pair {
+    fn new(alloc: Global, short: &Short<'_>) -> Result<Pair, AllocError> {
+        Ok(Pair {
+            straight: Straight::new(short.limit(), short.number()),
+            waiting: Waiting::new(alloc, short.limit(), short.number())?,
+            pieces: Saturating(0),
+            sooner: false,
+            right: true,
+        })
+    }
+
+    // Both have seen the same bytes.
+    fn compare(&self, come: &[u8]) -> Verdict {
+        let a = self.straight.shown;
+        let b = self.waiting.shown;
+        if a.packets != b.packets || a.digest != b.digest || a.amiss || b.amiss {
+            return Verdict::Differs;
+        }
+        if a.refusal == b.refusal {
+            return Verdict::Same;
+        }
+        let unread = come.get(b.at..).unwrap_or_default();
+        if a.refusal == Some(Refusal::OutOfSync) && b.refusal.is_none() && is_begun(unread) {
+            return Verdict::Sooner;
+        }
+        Verdict::Differs
+    }
+
+    fn take(&mut self, come: &[u8]) {
+        drain(&mut self.straight, come);
+        drain(&mut self.waiting, come);
+        self.pieces += 1;
+        match self.compare(come) {
+            Verdict::Same => (),
+            Verdict::Sooner => self.sooner = true,
+            Verdict::Differs => self.right = false,
+        }
+    }
+
+    // All pieces, and one that is empty at the end. So many there never are: that would differ.
+    fn serve(&mut self, short: &Short<'_>, bytes: &[u8]) {
+        let mut got = 0;
+        for k in 0..10_000 {
+            let ended = got == bytes.len();
+            got = bytes.len().min(got.saturating_add(short.piece_len(k)));
+            self.take(part(bytes, 0, got));
+            if ended {
+                return;
+            }
+        }
+        self.right = false;
     }
 }
 
-fn run_short() {
-    let mut pool = [0u8; 1024];
-    let mut line = [0u8; 2048];
-    let mut dst = [0u8; 64];
-    let mut one = [0u8; 96];
-    fill(&mut pool);
-    let t = run_streams(&mut line, &mut dst, &mut one, &pool);
-    say(b"seed ", SEED);
-    say(b"streams ", STREAMS);
-    say(b"packets written ", t.written);
-    say(b"pieces ", t.pieces);
-    say(b"calls ", t.calls);
-    say(b"parts ", t.parts);
-    say(b"packets marked ", t.packets);
-    say(b"refused with 2 ", t.large);
-    say(b"refused with 3 ", t.wrong);
-    say(b"  of these sooner than the waiting reader ", t.sooner);
-    say(b"differences ", t.differences);
+// ---- what all short streams come to
+
+#[derive(Default, Drop)]
+struct Counts {
+    written: Saturating<usize>,
+    pieces: Saturating<usize>,
+    calls: Saturating<usize>,
+    parts: Saturating<usize>,
+    packets: Saturating<usize>,
+    // Streams refused as too large, with 2, and as out of sync, with 3.
+    large: Saturating<usize>,
+    wrong: Saturating<usize>,
+    sooner: Saturating<usize>,
+    differences: Saturating<usize>,
+}
+
+impl Counts {
+    fn add_stream(&mut self, rt: &(impl Print + AllocGlobal), short: &Short<'_>) -> io::Result<()> {
+        let bytes = short.bytes(rt.alloc())?;
+        let mut pair = Pair::new(rt.alloc(), short)?;
+        pair.serve(short, &bytes);
+        let straight = &pair.straight;
+        let refusal = straight.shown.refusal;
+        let large = refusal == Some(Refusal::TooLarge);
+        let wrong = refusal == Some(Refusal::OutOfSync);
+        self.written += short.packets();
+        self.pieces += pair.pieces;
+        self.calls += straight.calls;
+        self.parts += straight.parts;
+        self.packets += straight.shown.packets;
+        self.large += usize::from(large);
+        self.wrong += usize::from(wrong);
+        self.sooner += usize::from(pair.sooner);
+        if pair.right {
+            return Ok(());
+        }
+        self.differences += 1;
+        println!(rt; "differs: stream {}", short.draws.case)
+    }
+}
+
+fn run_short(rt: &(impl Print + AllocGlobal)) -> io::Result<()> {
+    let draws = Draws {
+        seed: SEED,
+        case: 0,
+    };
+    let pool: Vec<u8> = (0..1024).map(|i| draws.byte(11, i)).collect(rt.alloc())?;
+    let mut counts = Counts::default();
+    for case in 0..STREAMS {
+        counts.add_stream(rt, &Short::new(&pool, case))?;
+    }
+    println!(rt; "seed {SEED}")?;
+    println!(rt; "streams {STREAMS}")?;
+    println!(rt; "packets written {}", counts.written)?;
+    println!(rt; "pieces {}", counts.pieces)?;
+    println!(rt; "calls {}", counts.calls)?;
+    println!(rt; "parts {}", counts.parts)?;
+    println!(rt; "packets marked {}", counts.packets)?;
+    println!(rt; "refused with 2 {}", counts.large)?;
+    println!(rt; "refused with 3 {}", counts.wrong)?;
+    println!(rt;
+        "  of these sooner than the waiting reader {}",
+        counts.sooner
+    )?;
+    println!(rt; "differences {}", counts.differences)
 }
 
 // ---- long packets
 
-// Byte i of a long packet.
-fn packet_byte(i: usize) -> u8 {
-    ((i % 251 + i / 65_536) % 256) as u8
+// A packet of `len` bytes.
+#[derive(Clone, Copy)]
+struct Long {
+    len: u32,
 }
 
-// Byte i of the header of chunk c, of n bytes.
-fn header_byte(n: usize, c: usize, i: usize) -> u8 {
-    match i {
-        0 => (n % 256) as u8,
-        1 => (n / 256 % 256) as u8,
-        2 => (n / 65_536 % 256) as u8,
-        _ => (c % 256) as u8,
+impl Long {
+    // The last chunk is shorter than a full one, and may be empty.
+    fn chunks(self) -> usize
+        ensures { result ≤ 257 }
+    {
+        self.len as usize / MAX_PAYLOAD_LEN + 1
     }
-}
 
-// Byte p of the chunks of a packet of n bytes.
-fn stream_byte(n: usize, p: usize) -> u8
-    requires { p < 0x1_0000_0000 }
-{
-    let c = p / (MAX_PAYLOAD_LEN + 4);
-    let i = p % (MAX_PAYLOAD_LEN + 4);
-    if i < 4 {
-        if n / MAX_PAYLOAD_LEN <= c {
-            return header_byte(n % MAX_PAYLOAD_LEN, c, i);
+    // How many bytes all chunks have.
+    fn size(self) -> usize {
+        self.len as usize + 4 * self.chunks()
+    }
+
+    // Byte i of the packet.
+    fn byte(i: usize) -> u8 {
+        ((i % 251 + i / 65_536) % 256) as u8
+    }
+
+    // Byte p of the chunks: of a header, three bytes of length and the number, or of the packet.
+    fn stream_byte(self, p: usize) -> u8 {
+        let chunk = p / (MAX_PAYLOAD_LEN + 4);
+        let i = p % (MAX_PAYLOAD_LEN + 4);
+        if 4 <= i {
+            return Long::byte(chunk * MAX_PAYLOAD_LEN + i - 4);
         }
-        return header_byte(MAX_PAYLOAD_LEN, c, i);
+        let len = if chunk + 1 < self.chunks() {
+            MAX_PAYLOAD_LEN
+        } else {
+            self.len as usize % MAX_PAYLOAD_LEN
+        };
+        let header = (chunk % 256 * 0x100_0000 + len) as u32;
+        header.to_le_bytes()[i]
     }
-    packet_byte(c * MAX_PAYLOAD_LEN + i - 4)
-}
 
-// The bytes from place p on.
-fn make_up(buf: &mut [u8], n: usize, p: usize)
-    requires { p + length buf.old < 0x1_0000_0000 }
-{
-    let mut i = 0;
-    while i < buf.len() {
-        buf[i] = stream_byte(n, p + i);
-        i += 1;
+    // The checksum and the length of the packet, by itself.
+    fn packet(self) -> Packet {
+        let mut packet = Packet::default();
+        for i in 0..self.len as usize {
+            packet.add(Long::byte(i));
+        }
+        packet
+    }
+
+    // The chunks, straight through, piece by piece.
+    fn pass(self, alloc: Global) -> Result<Straight, AllocError> {
+        let mut straight = Straight::new(MAX_LIMIT, 0);
+        for p in (0..self.size()).step_by(PIECE) {
+            let end = self.size().min(p.saturating_add(PIECE));
+            let piece: Vec<u8> = (p..end).map(|p| self.stream_byte(p)).collect(alloc)?;
+            straight.shown.at = 0;
+            drain(&mut straight, &piece);
+        }
+        Ok(straight)
+    }
+
+    fn run(self, rt: &(impl Print + AllocGlobal)) -> io::Result<()> {
+        let straight = self.pass(rt.alloc())?;
+        let last = straight.shown.last;
+        println!(rt; "a packet of {}", self.len)?;
+        println!(rt; "  chunks {}", self.chunks())?;
+        println!(rt; "  packets marked {}", straight.shown.packets)?;
+        println!(rt; "  length {}", last.len)?;
+        println!(rt; "  parts {}", straight.parts)?;
+        println!(rt; "  checksum {}", last.sum)?;
+        println!(rt; "  differences {}", usize::from(last != self.packet()))
     }
 }
 
-// The checksum of a packet of n bytes, by itself.
-fn packet_sum(n: usize) -> usize {
-    let mut sum = 0;
-    let mut i = 0;
-    while i < n {
-        sum = with_byte(sum, packet_byte(i));
-        i += 1;
-    }
-    sum
-}
-
-fn at_front(h: Straight) -> Straight {
-    let stream = h.stream;
-    let mut shown = h.shown;
-    shown.at = 0;
-    Straight {
-        stream,
-        shown,
-        sum: h.sum,
-        len: h.len,
-        parts: h.parts,
-        calls: h.calls,
-        more: true,
-    }
-}
-
-fn smaller(a: usize, b: usize) -> usize {
-    if a < b { a } else { b }
-}
-
-// The chunks of a packet of n bytes, `size` bytes in all, through a buffer.
-fn pass_long(buf: &mut [u8], n: usize, size: usize) -> Straight
-    requires { (size < 0x8000_0000) × (1 ≤ length buf.old) × (length buf.old ≤ 4096) }
-{
-    let room = buf.len();
-    let mut h = straight_at(1_073_741_824, 0);
-    let mut p = 0;
-    while p < size {
-        make_up(buf, n, p);
-        h = pass_piece(buf, smaller(room, size - p), at_front(h));
-        p += room;
-    }
-    h
-}
-
-// A packet of n bytes, in pieces of 4 KiB.
-fn run_long(n: usize)
-    requires { n < 0x4000_0000 }
-{
-    let mut buf = [0u8; 4096];
-    let h = pass_long(&mut buf, n, n + 4 * (n / MAX_PAYLOAD_LEN + 1));
-    let shown = h.shown;
-    say(b"a packet of ", n);
-    say(b"  chunks ", n / MAX_PAYLOAD_LEN + 1);
-    say(b"  packets marked ", shown.packets);
-    say(b"  length ", shown.len);
-    say(b"  parts ", h.parts);
-    say(b"  checksum ", shown.sum);
-    say(b"  differences ", one_if(shown.sum != packet_sum(n)));
-}
-
-fn main() {
-    run_short();
+fn main(rt: HostRuntime) -> io::Result<()> {
+    run_short(&rt)?;
     // "chunks of M, M and the rest"; and one that ends with an empty chunk
-    run_long(41_943_040);
-    run_long(33_554_430);
+    Long { len: 41_943_040 }.run(&rt)?;
+    Long { len: 33_554_430 }.run(&rt)
 }

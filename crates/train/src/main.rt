@@ -4,140 +4,94 @@
 // Standard input holds, for each train, its name as a length-encoded string and its offset as a binary TIME value.
 #![tactic(auto)]
 
-ghost use Rattle.std.specs.Prelude.{◌≤◌, ◌<◌};
+use refusal::{Refusal, number_of};
+use std::io;
+use std::io::{Read, Write};
+use wire::{Parsed, part};
 
-use duration::{Duration, ReadTime};
-use refusal::Refusal;
-use wire::ReadStr;
+// How many bytes of the input are read, and how many trains of it, at most.
+const INPUT: u64 = 4096;
 
-const STDOUT_FILENO: i32 = 1;
+const TRAINS: usize = 32;
 
-// Puts a train behind those that leave no later.
-fn enqueue(offsets: &mut [i64; 32], places: &mut [usize; 32], n: usize, offset: i64, place: usize)
-    requires { n < 32 }
-{
-    let mut i = n;
-    while 0 < i {
-        let before = i - 1;
-        let other = offsets[before];
-        if other <= offset {
+// Why something of the input is refused, and its place.
+#[derive(Clone, Copy)]
+struct Refused {
+    why: Refusal,
+    at: usize,
+}
+
+impl Refused {
+    fn say(self, rt: &impl Print) -> io::Result<()> {
+        println!(rt; "refused: {} at byte {}", number_of(self.why), self.at)
+    }
+}
+
+#[derive(Clone, Copy)]
+struct Train<'a> {
+    name: &'a [u8],
+    offset: i64,
+}
+
+impl Train<'_> {
+    // A name may be no UTF-8: its bytes are written.
+    fn say(self, rt: &impl Print) -> io::Result<()> {
+        let mut out = io::writer(rt);
+        write!(out, "{}\t", self.offset)?;
+        out.write_all(self.name)?;
+        writeln!(out)
+    }
+}
+
+// The train at a place, which is refused where no i64 holds its offset, and the place behind it; none where it can't be read.
+fn train_at(input: &[u8], at: usize) -> Result<Parsed<Result<Train<'_>, Refused>>, Refused> {
+    let text = wire::checked_eat_lenenc_str(input, at).map_err(|why| Refused { why, at })?;
+    let name = part(input, text.at, text.len);
+    let at = text.at.saturating_add(text.len);
+    let time = duration::read_time(input, at).map_err(|why| Refused { why, at })?;
+    let value = match duration::duration_of(time.value) {
+        Ok(offset) => Ok(Train { name, offset }),
+        Err(why) => Err(Refused { why, at }),
+    };
+    Ok(Parsed {
+        value,
+        next: time.next,
+    })
+}
+
+// The trains in the order in which they leave; of those with one offset, in the input's. What is refused is said, and ends the input
+// where it can't be read.
+fn load<'a>(rt: &(impl AllocGlobal + Print), input: &'a [u8]) -> io::Result<Vec<Train<'a>>> {
+    let mut queue = Vec::new(rt.alloc());
+    let mut at = 0;
+    for _ in 0..TRAINS {
+        if input.len() <= at {
             break;
         }
-        let there = places[before];
-        offsets[i] = other;
-        places[i] = there;
-        i = before;
-    }
-    offsets[i] = offset;
-    places[i] = place;
-}
-
-// A refusal, by its number and its place in the input.
-fn say_refused(r: Refusal, at: usize) {
-    io::write_all(STDOUT_FILENO, b"refused: ");
-    io::print_decimal(STDOUT_FILENO, refusal::number_of(r) as u64);
-    io::write_all(STDOUT_FILENO, b" at byte ");
-    io::print_decimal(STDOUT_FILENO, at as u64);
-    io::write_all(STDOUT_FILENO, b"\n");
-}
-
-fn print_signed(z: i64) {
-    if z < 0 {
-        io::write_all(STDOUT_FILENO, b"-");
-    }
-    io::print_decimal(STDOUT_FILENO, duration::magnitude(z));
-}
-
-// The name at a place, with a line end.
-fn print_name(input: &[u8], place: usize) {
-    match wire::checked_eat_lenenc_str(input, place) {
-        ReadStr::Done(name) => {
-            io::write_all(STDOUT_FILENO, wire::part(input, name.at, name.len));
-        }
-        ReadStr::Refused(r) => say_refused(r, place),
-    }
-    io::write_all(STDOUT_FILENO, b"\n");
-}
-
-// A train in the input.
-#[derive(Clone, Copy)]
-enum Train {
-    // Its offset, and where the next one stands.
-    Ready(i64, usize),
-    // Its offset is refused: why, where, and where the next one stands.
-    Timeless(Refusal, usize, usize),
-    // It can't be read: why and where.
-    Unread(Refusal, usize),
-}
-
-// The offset at a place.
-fn offset_at(input: &[u8], at: usize) -> Train {
-    match duration::read_time(input, at) {
-        ReadTime::Done(t) => {
-            let next = t.next;
-            match duration::duration_of(t.time) {
-                Duration::Micros(offset) => Train::Ready(offset, next),
-                Duration::Refused(r) => Train::Timeless(r, at, next),
-            }
-        }
-        ReadTime::Refused(r) => Train::Unread(r, at),
-    }
-}
-
-fn train_at(input: &[u8], at: usize) -> Train {
-    match wire::checked_eat_lenenc_str(input, at) {
-        ReadStr::Done(name) => {
-            let end = name.at + name.len;
-            offset_at(input, end)
-        }
-        ReadStr::Refused(r) => Train::Unread(r, at),
-    }
-}
-
-// Reads trains until the input ends, 32 at the most, and answers how many stand in the queue.
-fn load(input: &[u8], offsets: &mut [i64; 32], places: &mut [usize; 32]) -> usize
-    ensures { result ≤ 32 }
-{
-    let mut n: usize = 0;
-    let mut at: usize = 0;
-    let mut seen: usize = 0;
-    while seen < 32 {
-        if input.len() <= at {
-            return n;
-        }
         match train_at(input, at) {
-            Train::Ready(offset, next) => {
-                enqueue(offsets, places, n, offset, at);
-                n += 1;
-                at = next;
+            Ok(read) => {
+                match read.value {
+                    Ok(train) => queue.push(train)?,
+                    Err(refused) => refused.say(rt)?,
+                }
+                at = read.next;
             }
-            Train::Timeless(r, place, next) => {
-                say_refused(r, place);
-                at = next;
-            }
-            Train::Unread(r, place) => {
-                say_refused(r, place);
-                return n;
+            Err(refused) => {
+                refused.say(rt)?;
+                break;
             }
         }
-        seen += 1;
     }
-    n
+    queue.sort_by_key(|train| train.offset)?;
+    Ok(queue)
 }
 
-fn main() {
-    let mut buffer = io::buffer();
-    let size = io::read_full(0, &mut buffer);
-    let mut offsets = [0i64; 32];
-    let mut places = [0usize; 32];
-    let n = load(&buffer[..size], &mut offsets, &mut places);
-    let mut i = 0;
-    while i < n {
-        let offset = offsets[i];
-        let place = places[i];
-        print_signed(offset);
-        io::write_all(STDOUT_FILENO, b"\t");
-        print_name(&buffer, place);
-        i += 1;
+fn main(rt: HostRuntime) -> io::Result<()> {
+    let mut input = Vec::new(rt.alloc());
+    // A read that fails is the input's end.
+    let _ = rt.reader().take(INPUT).read_to_end(&mut input);
+    for train in &load(&rt, &input)? {
+        train.say(&rt)?;
     }
+    Ok(())
 }

@@ -1,4 +1,3 @@
 pub mod NumberLaws
-pub mod ReadLaws
 pub mod WriteLaws
 pub mod Unique

@@ -1,4 +1,5 @@
 -- What is written: numbers side by side as one, and the parts of a date or time behind their length.
+use Rattle.std.specs.Prelude.{Ok}
 use mathlib.Core.Path.{◌≡◌, refl, sym, ap, ◌∙◌}
 use mathlib.Core.Bool.{Bool, true, false, cond}
 use mathlib.Core.List.{List, [], ◌∷◌, ◌++◌}
@@ -8,18 +9,14 @@ use native.Mathlib.Nat.{zero-add, suc-add, sub-zero, zero-min, min-zero, suc-min
 use borrow.Author.Tests.{lt-ltb}
 use mir.Val.{bool_byte}
 use lib.ListN.{length, take, set, length-append, length-set}
-use lib.Seq.{sets-eq}
 use Rattle.wire.specs.Le.{le_bytes}
 use Rattle.wire.specs.LeLaws.{le_length}
 use Rattle.refusal.specs.Said.{gives}
 use Rattle.wire.specs.Room.{Wrote, patch, length_of}
 use Rattle.wire.specs.RoomLaws.{patch_cons, patch-append, wrote_next}
-use Rattle.wire.specs.declared.Put.TheVariants.{Next}
 use Rattle.duration.specs.declared.Time.{Time}
 use Rattle.value.specs.Dates.{date_length, time_length, date_bytes, time_bytes}
 use Rattle.value.specs.DateLaws.{date_body, time_body}
-use Rattle.value.specs.Write.{value_bytes}
-use Rattle.value.specs.declared.Value.{Value}
 use Rattle.value.specs.declared.Date.{Date}
 
 -- two numbers side by side are one number
@@ -80,7 +77,7 @@ take-both (suc n) (suc k) j a b h =
 -- a length byte and so many bytes of two numbers: one store and two copies
 pub fields_wrote : (d : List ℕ) (at len k head micros n : ℕ) (d₁ d₂ : List ℕ) → n ≡ min len k → len ≤ k + 4 → at + (len + 1) ≤ length d
     → d₁ ≡ patch (set d at len) (at + 1) (le_bytes n head) → d₂ ≡ patch d₁ (at + 1 + n) (le_bytes (len - n) micros)
-    → Wrote (len ∷ take len (le_bytes k head ++ le_bytes 4 micros)) d at (Next (at + 1 + len)) d₂
+    → Wrote (len ∷ take len (le_bytes k head ++ le_bytes 4 micros)) d at (Ok (at + 1 + len)) d₂
 fields_wrote d at len k head micros n d₁ d₂ e h room p q =
     let f : len ∷ take len (le_bytes k head ++ le_bytes 4 micros) ≡ len ∷ (le_bytes n head ++ le_bytes (len - n) micros) =
     ap (λ (l : List ℕ). len ∷ l) (take-both len k 4 head micros h ∙ (rw e)) in
@@ -97,31 +94,14 @@ fields_wrote d at len k head micros n d₁ d₂ e h room p q =
     (g ∙ (rw p (patch-append (set d at len) (at + 1) (le_bytes n head) (le_bytes (len - n) micros) w))
     ∙ patch_cons d at len (le_bytes n head ++ le_bytes (len - n) micros) (omega arith)))
 
--- the same length of the same fields
-pub fields_as : {n len : ℕ} {fs gs : List ℕ} → len ≡ n → gs ≡ fs → n ∷ take n fs ≡ len ∷ take len gs
-fields_as e f = rw (e, f)
-
 -- a bool as a number is the sign byte
 pub sign_byte : (neg : Bool) → bool_byte neg ≡ cond neg 1 0
 sign_byte true = refl
 sign_byte false = refl
 
-pub sign_le : (neg : Bool) → bool_byte neg ≤ 1
-sign_le true = omega arith
-sign_le false = omega arith
-
--- nothing is written where the place lies in the buffer
-pub wrote_none : (d : List ℕ) (at : ℕ) → at ≤ length d → Wrote [] d at (Next at) d
-wrote_none d at h = wrote_next [] d at at d (omega arith) (omega arith) (sets-eq [] d at (omega arith))
-
--- the bytes of a value whose case is known
-pub value_as : (src : List ℕ) {v w : Value} {bs : List ℕ} → v ≡ w → value_bytes src w ≡ bs → value_bytes src v ≡ bs
-value_as src e h = ap (value_bytes src) e ∙ h
-
-pub len_as : (src : List ℕ) {v w : Value} (n : ℕ) → v ≡ w → length (value_bytes src w) ≡ n → n < 2 ^ 64 → gives n ≡ length_of (value_bytes src v)
-len_as src {v} n e h l =
-    let f : length (value_bytes src v) ≡ n = ap (λ (x : Value). length (value_bytes src x)) e ∙ h in
-    rw f (simp (lt-ltb n (2 ^ 64) l))
+-- a length that fits
+pub length_is : (bs : List ℕ) (n : ℕ) → length bs ≡ n → n < 2 ^ 64 → length_of bs ≡ gives n
+length_is bs n e l = rw e (simp (lt-ltb n (2 ^ 64) l))
 
 pub date_length_lem : (d : Date) → length (date_bytes d) ≡ 1 + date_length d
 date_length_lem d = omega (arith, date_body d)

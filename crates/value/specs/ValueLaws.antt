@@ -1,6 +1,9 @@
 -- What is written is read back, at any place before any tail; a value takes the bytes that it needs; a reader goes on where
 -- a skip does. Each law has the column types that bring the value back and the sign they are read with.
-use Rattle.std.specs.Prelude.{◌≡◌, refl, Bool, true, false, ℕ, ◌+◌, ◌-◌, ◌≤◌, ◌<◌, ◌^◌, leb, ltb, ℤ, pos, negsuc, Float, take, drop}
+use Rattle.wire.specs.declared.Text.{Text}
+use Rattle.wire.specs.declared.Parsed.{Parsed}
+use Rattle.refusal.specs.declared.Refusal.{Refusal}
+use Rattle.std.specs.Prelude.{◌≡◌, refl, Bool, true, false, ℕ, ◌+◌, ◌-◌, ◌≤◌, ◌<◌, ◌^◌, max, leb, ltb, ℤ, pos, negsuc, Float, take, drop, Result, Option, Some, None}
 use Rattle.std.proofs.Math.Path.{sym, ap}
 use Rattle.std.proofs.Common.{◌∙◌, arith, add-zero, take_at, drop_at, length-take-le, get_or-drop, drop-drop}
 use mathlib.Core.List.{List, ◌∷◌, ◌++◌, append_assoc}
@@ -11,44 +14,62 @@ use Rattle.std.specs.Float.{nan, Format}
 use Rattle.std.specs.Float.Ieee.{binary32, binary64, fits, is_nan, nan_bits, to_bits}
 use Rattle.std.specs.Float.Ieee.Bits.{nan_bits_is, nan_bits_above, of_bits-to_bits, to_bits-lt}
 use Rattle.std.proofs.Math.ListN.{length, get_or, length-append, length-drop}
-use Rattle.refusal.specs.Said.{Said, gives, refused, check, and_then}
+use Rattle.refusal.specs.Said.{Said, gives, refused, check, and_then, said_of, gives_same}
 use Rattle.wire.specs.Le.{le_of, le_at, le_bytes}
 use Rattle.wire.specs.LeLaws.{le_length}
 use Rattle.wire.specs.LenEnc.{byte_str_at, str_bytes, len_bytes, part_of}
-use Rattle.wire.specs.LenEncLaws.{le_back, str_back, part_back, part_fits}
-use Rattle.wire.specs.Room.{Wrote, put_said, length_of}
+use Rattle.wire.specs.LenEncLaws.{le_back, str_back, part_back, part_fits, within-fits, str_within, byte_str_within}
+use Rattle.wire.specs.Room.{Wrote, length_of}
 use Rattle.wire.specs.RoomLaws.{wrote_left}
-use Rattle.wire.specs.declared.LenEncStr.{LenEncStr}
-use Rattle.wire.specs.declared.Put.{Put}
 use Rattle.duration.specs.Time.{time_of}
 use Rattle.duration.specs.declared.Time.{Time}
 use Rattle.value.specs.Kinds.{kind_of}
 use Rattle.value.specs.Numbers.{twos, pattern_of, plain_of, int_of, float_of, double_of}
 use Rattle.value.specs.Dates.{date_of, date_fields, date_length, time_fields, time_length}
 use Rattle.value.specs.DateLaws.{date_body, time_body, DateFits, TimeFits, time_back, date_fields_back, time_fields_back}
-use Rattle.value.specs.Read.{body_of, means_of, value_in, fixed, kind_at, bin_at, end_in, skip_at}
+use Rattle.value.specs.Read.{body_of, means_of, value_in, fixed, kind_at, typed, bin_at, end_in, skip_at}
 use Rattle.value.specs.Write.{value_bytes}
 use Rattle.value.specs.declared.Date.{Date}
-use Rattle.value.specs.declared.GotValue.{GotValue}
 use Rattle.value.specs.declared.Kind.{Kind}
 use Rattle.value.specs.declared.Kind.TheVariants as K
 use Rattle.value.specs.declared.Value.{Value}
 use Rattle.value.specs.declared.Value.TheVariants as Of
 
 -- a value that was read, and the place behind it
-abbrev pub read : Value → ℕ → Said GotValue
+abbrev pub read : Value → ℕ → Said (Parsed Value)
 read v n = gives (record { value = v; next = n })
+
+-- ---- where a value ends
+
+-- within the bytes, or where it starts if it has none
+pub body_end : (k : Kind) (s : List ℕ) (at : ℕ) (p : Text) → body_of k s at ≡ gives p → p.at + p.len ≤ max at (length s)
+body_end K.Str s at p e = omega (arith, str_within s at p e)
+body_end K.One s at p e = omega (arith, within-fits s at 1 p e)
+body_end K.Two s at p e = omega (arith, within-fits s at 2 p e)
+body_end K.Four s at p e = omega (arith, within-fits s at 4 p e)
+body_end K.Eight s at p e = omega (arith, within-fits s at 8 p e)
+body_end K.Single s at p e = omega (arith, within-fits s at 4 p e)
+body_end K.Wide s at p e = omega (arith, within-fits s at 8 p e)
+body_end K.Nil s at p e =
+    let q : record { at = at; len = 0 } ≡ p = gives_same e in
+    rw (← q) (omega arith)
+body_end K.Day s at p e = omega (arith, byte_str_within s at p e)
+body_end K.Clock s at p e = omega (arith, byte_str_within s at p e)
 
 -- ---- where a reader goes on
 
 -- whatever the sign: where the skip does, with the same refusals
 pub next_skip : (s : List ℕ) (at t : ℕ) (u : Bool) → and_then (bin_at s at t u) (λ g. gives g.next) ≡ skip_at s at t
 unfolding bin_at skip_at
-next_skip s at t u = by_body (body_of (kind_of t) s at) (means_of (kind_of t) u s)
+next_skip s at t u = by_kind (kind_of t)
   where
-    by_body : (b : Said LenEncStr) (f : ℕ → ℕ → Value) → and_then (value_in f b) (λ g. gives g.next) ≡ end_in b
+    by_body : (b : Said Text) (f : ℕ → ℕ → Value) → and_then (value_in f b) (λ g. gives g.next) ≡ end_in b
     by_body (gives p) f = refl
     by_body (refused k) f = refl
+
+    by_kind : (k : Option Kind) → and_then (typed k (λ j. kind_at j u s at)) (λ g. gives g.next) ≡ typed k (λ j. end_in (body_of j s at))
+    by_kind (Some k) = by_body (body_of k s at) (means_of k u s)
+    by_kind None = refl
 
 -- ---- a value takes the bytes that it needs
 
@@ -57,8 +78,8 @@ needed_by bs n true e = cc e
 needed_by bs n false e = let z : ◌≡◌ {A = ℕ} 0 1 = cc e in absurd (omega arith)
 
 -- what `bin_len` answers is what `serialize` goes on by, and what must be there
-pub takes_needed : (src : List ℕ) (v : Value) (n : ℕ) (d : List ℕ) (at : ℕ) (r : Put) (d' : List ℕ) → gives n ≡ length_of (value_bytes src v)
-    → Wrote (value_bytes src v) d at r d' → put_said r ≡ check (leb (at + n) (length d)) 6 (gives (at + n))
+pub takes_needed : (src : List ℕ) (v : Value) (n : ℕ) (d : List ℕ) (at : ℕ) (r : Result ℕ Refusal) (d' : List ℕ) → gives n ≡ length_of (value_bytes src v)
+    → Wrote (value_bytes src v) d at r d' → said_of r ≡ check (leb (at + n) (length d)) 6 (gives (at + n))
 takes_needed src v n d at r d' e w = rw (needed_by (value_bytes src v) n (ltb (length (value_bytes src v)) (2 ^ 64)) e) w.said
 
 -- ---- numbers
@@ -164,16 +185,16 @@ module _ (s : List ℕ) (at : ℕ) (src t : List ℕ) where
   own_nan_double u e = wide 0x7FF8_0000_0000_0000 u (omega arith) e ∙ simp quiet_wide
 
   -- Bytes, by any of the string types: the part that is answered is the bytes
-  pub str_value : (bs : List ℕ) (T : ℕ) (u : Bool) → kind_of T ≡ K.Str → length bs < 2 ^ 64 → drop at s ≡ str_bytes bs ++ t
+  pub str_value : (bs : List ℕ) (T : ℕ) (u : Bool) → kind_of T ≡ Some K.Str → length bs < 2 ^ 64 → drop at s ≡ str_bytes bs ++ t
       → bin_at s at T u ≡ read (Of.Bytes (at + length (len_bytes (length bs))) (length bs)) (at + length (str_bytes bs))
   unfolding bin_at
   str_value bs T u k h e =
       let n : at + length (len_bytes (length bs)) + length bs ≡ at + length (str_bytes bs) = simp length-append (omega arith) in
-      ap (λ (j : Kind). kind_at j u s at) k
+      ap (λ (o : Option Kind). typed o (λ j. kind_at j u s at)) k
       ∙ ap (value_in Of.Bytes) (str_back s at t bs h e)
       ∙ ap (read (Of.Bytes (at + length (len_bytes (length bs))) (length bs))) n
 
-  pub bytes_back : (from len T : ℕ) (u : Bool) → kind_of T ≡ K.Str → length (part_of src from len) < 2 ^ 64
+  pub bytes_back : (from len T : ℕ) (u : Bool) → kind_of T ≡ Some K.Str → length (part_of src from len) < 2 ^ 64
       → drop at s ≡ value_bytes src (Of.Bytes from len) ++ t
       → (bin_at s at T u
       ≡ read (Of.Bytes (at + length (len_bytes (length (part_of src from len)))) (length (part_of src from len)))
@@ -196,11 +217,11 @@ module _ (s : List ℕ) (at : ℕ) (src t : List ℕ) where
       part_fits s (at + 1) n fit ∙ ap (take n) (sym (drop-drop 1 at s) ∙ ap (drop 1) e) ∙ take_at bs t n l
 
   -- Date, by any of the date types
-  pub date_back : (d : Date) (T : ℕ) (u : Bool) → kind_of T ≡ K.Day → DateFits d → drop at s ≡ value_bytes src (Of.Date d) ++ t
+  pub date_back : (d : Date) (T : ℕ) (u : Bool) → kind_of T ≡ Some K.Day → DateFits d → drop at s ≡ value_bytes src (Of.Date d) ++ t
       → bin_at s at T u ≡ read (Of.Date d) (at + 1 + date_length d)
   unfolding bin_at value_bytes
   date_back d T u k l e =
-      ap (λ (j : Kind). kind_at j u s at) k
+      ap (λ (o : Option Kind). typed o (λ j. kind_at j u s at)) k
       ∙ ap (value_in (means_of K.Day u s)) (counted (date_length d) (take (date_length d) (date_fields d)) (date_body d) e)
       ∙ ap (λ (x : Date). read (Of.Date x) (at + 1 + date_length d))
       (ap date_of (counted_part (date_length d) (take (date_length d) (date_fields d)) (date_body d) e) ∙ date_fields_back d l)
@@ -215,7 +236,7 @@ module _ (s : List ℕ) (at : ℕ) (src t : List ℕ) where
       (ap time_of (counted_part (time_length x) (take (time_length x) (time_fields x)) (time_body x) e) ∙ time_fields_back x l)
 
 -- a value that was written stands at its place, before what stood behind it
-pub written_there : (bs d : List ℕ) (at : ℕ) (r : Put) (d' : List ℕ) → Wrote bs d at r d' → at + length bs ≤ length d
+pub written_there : (bs d : List ℕ) (at : ℕ) (r : Result ℕ Refusal) (d' : List ℕ) → Wrote bs d at r d' → at + length bs ≤ length d
     → drop at d' ≡ bs ++ drop (at + length bs) d
 written_there bs d at r d' w h =
     ap (drop at) (wrote_left w h ∙ append_assoc (take at d) bs (drop (at + length bs) d))

@@ -1,21 +1,20 @@
 // What the bytes of a value mean, kind by kind.
-ghost use Rattle.std.specs.Prelude.{◌≡◌, false, ◌+◌, ◌*◌, ◌≤◌, ◌<◌, ◌^◌};
+ghost use Rattle.refusal.specs.Said.{said_of};
+ghost use Rattle.std.specs.Prelude.{◌≡◌, IfOk, false, ◌+◌, ◌*◌, ◌≤◌, ◌<◌, ◌^◌};
+ghost use Rattle.wire.specs.Le.{num_at};
 ghost use Rattle.value.specs.Numbers.{twos, int_of, float_of, double_of};
 ghost use Rattle.value.specs.Dates.{date_of};
-ghost use Rattle.value.specs.Read.{kind_at, fixed, value_said};
+ghost use Rattle.value.specs.Read.{kind_at, fixed};
 ghost use Rattle.value.specs.declared.Kind.TheVariants.{Str, Single, Wide, Day, Clock};
 
-use crate::{Date, GotValue, ReadValue, Value};
-use duration::ReadTime;
+use crate::{Date, Value};
 use refusal::Refusal;
-use wire::ReadStr;
-
-// The largest number that is of the signed kind in an unsigned column.
-const MOST: u64 = 9_223_372_036_854_775_807;
+use wire::Parsed;
 
 // ---- numbers
 
 // A pattern as a signed number, at the width whose sign bit weighs half.
+#[tactic(auto, using(std::proofs::lemmas::Int::ints), unfolding(crate::specs::Numbers::twos))]
 fn signed_of(x: u64, half: u64) -> i64
     requires { (half ≤ 2 ^ 63) × (x < half + half) }
     ensures { result ≡ twos half x }
@@ -29,20 +28,22 @@ fn signed_of(x: u64, half: u64) -> i64
 }
 
 // The number x of k bytes in an integer column.
+#[tactic(auto, using(crate::proofs::NumberLaws::half_shl, crate::proofs::NumberLaws::half_fits, crate::proofs::NumberLaws::half_twice), unfolding(crate::specs::Numbers::int_of))]
 fn int_of(x: u64, k: usize, unsigned: bool) -> Value
     requires { (1 ≤ k) × (k ≤ 8) × (x < 2 ^ (8 * k)) }
     ensures { result ≡ int_of unsigned k x }
 {
-    if unsigned {
-        if x <= MOST {
-            return Value::Int(x as i64);
-        }
-        return Value::UInt(x);
+    if !unsigned {
+        return Value::Int(signed_of(x, 1u64 << (8 * k - 1)));
     }
-    Value::Int(signed_of(x, 1u64 << (8 * k - 1)))
+    match i64::try_from(x) {
+        Ok(z) => Value::Int(z),
+        Err(_) => Value::UInt(x),
+    }
 }
 
 // `from_bits` is not defined at a NaN, so a NaN's bits stay a number.
+#[tactic(auto, using(crate::proofs::NumberLaws::is_nan_lem, crate::proofs::NumberLaws::is_number), unfolding(crate::specs::Numbers::float_of))]
 fn float_of(n: u32) -> Value
     ensures { result ≡ float_of n }
 {
@@ -53,6 +54,7 @@ fn float_of(n: u32) -> Value
     }
 }
 
+#[tactic(auto, using(crate::proofs::NumberLaws::is_nan_lem, crate::proofs::NumberLaws::is_number), unfolding(crate::specs::Numbers::double_of))]
 fn double_of(n: u64) -> Value
     ensures { result ≡ double_of n }
 {
@@ -63,62 +65,79 @@ fn double_of(n: u64) -> Value
     }
 }
 
-pub(crate) fn int_at(s: &[u8], at: usize, k: usize, unsigned: bool) -> ReadValue
+// The number of k bytes at a place.
+#[tactic(auto, unfolding(wire::specs::Le::num_at))]
+fn number_at(s: &[u8], at: usize, k: usize) -> Result<Parsed<u64>, Refusal>
+    requires { k ≤ 8 }
+    ensures said { said_of result ≡ num_at s.now at k }
+    ensures small { IfOk result (λ n. n.value < 2 ^ (8 * k)) }
+{
+    if !wire::inner::has(s, at, k) {
+        return Err(Refusal::Short);
+    }
+    Ok(Parsed {
+        value: wire::inner::le(s, at, k),
+        next: at + k,
+    })
+}
+
+#[tactic(auto, unfolding(wire::specs::Le::num_at))]
+pub(crate) fn int_at(
+    s: &[u8],
+    at: usize,
+    k: usize,
+    unsigned: bool,
+) -> Result<Parsed<Value>, Refusal>
     requires { (1 ≤ k) × (k ≤ 8) }
-    ensures { value_said result ≡ fixed s.now at k (int_of unsigned) }
+    ensures { said_of result ≡ fixed s.now at k (int_of unsigned) }
 {
-    if wire::inner::has(s, at, k) {
-        let value = int_of(wire::inner::le(s, at, k), k, unsigned);
-        let next = at + k;
-        ReadValue::Done(GotValue { value, next })
-    } else {
-        ReadValue::Refused(Refusal::Short)
-    }
+    let number = number_at(s, at, k)?;
+    Ok(Parsed {
+        value: int_of(number.value, k, unsigned),
+        next: number.next,
+    })
 }
 
-pub(crate) fn float_at(s: &[u8], at: usize) -> ReadValue
-    ensures { value_said result ≡ kind_at Single false s.now at }
+#[tactic(auto, unfolding(wire::specs::Le::num_at))]
+pub(crate) fn float_at(s: &[u8], at: usize) -> Result<Parsed<Value>, Refusal>
+    ensures { said_of result ≡ kind_at Single false s.now at }
 {
-    if wire::inner::has(s, at, 4) {
-        let value = float_of(wire::inner::le(s, at, 4) as u32);
-        let next = at + 4;
-        ReadValue::Done(GotValue { value, next })
-    } else {
-        ReadValue::Refused(Refusal::Short)
-    }
+    let bits = number_at(s, at, 4)?;
+    Ok(Parsed {
+        value: float_of(bits.value as u32),
+        next: bits.next,
+    })
 }
 
-pub(crate) fn double_at(s: &[u8], at: usize) -> ReadValue
-    ensures { value_said result ≡ kind_at Wide false s.now at }
+#[tactic(auto, unfolding(wire::specs::Le::num_at))]
+pub(crate) fn double_at(s: &[u8], at: usize) -> Result<Parsed<Value>, Refusal>
+    ensures { said_of result ≡ kind_at Wide false s.now at }
 {
-    if wire::inner::has(s, at, 8) {
-        let value = double_of(wire::inner::le(s, at, 8));
-        let next = at + 8;
-        ReadValue::Done(GotValue { value, next })
-    } else {
-        ReadValue::Refused(Refusal::Short)
-    }
+    let bits = number_at(s, at, 8)?;
+    Ok(Parsed {
+        value: double_of(bits.value),
+        next: bits.next,
+    })
 }
 
 // ---- values behind a length
 
-pub(crate) fn str_at(s: &[u8], at: usize) -> ReadValue
-    ensures { value_said result ≡ kind_at Str false s.now at }
+#[tactic(auto, using(wire::specs::LenEncLaws::str_within))]
+pub(crate) fn str_at(s: &[u8], at: usize) -> Result<Parsed<Value>, Refusal>
+    ensures { said_of result ≡ kind_at Str false s.now at }
 {
-    match wire::checked_eat_lenenc_str(s, at) {
-        ReadStr::Done(p) => {
-            let value = Value::Bytes {
-                at: p.at,
-                len: p.len,
-            };
-            let next = p.at + p.len;
-            ReadValue::Done(GotValue { value, next })
-        }
-        ReadStr::Refused(r) => ReadValue::Refused(r),
-    }
+    let body = wire::checked_eat_lenenc_str(s, at)?;
+    Ok(Parsed {
+        value: Value::Bytes {
+            at: body.at,
+            len: body.len,
+        },
+        next: body.at + body.len,
+    })
 }
 
 // What the bytes behind the length byte say. Microseconds are there at 11 bytes alone.
+#[tactic(auto, unfolding(crate::specs::Dates::date_of))]
 fn date_of(b: &[u8]) -> Date
     ensures { result ≡ date_of b.now }
 {
@@ -133,34 +152,24 @@ fn date_of(b: &[u8]) -> Date
     }
 }
 
-pub(crate) fn date_at(s: &[u8], at: usize) -> ReadValue
-    ensures { value_said result ≡ kind_at Day false s.now at }
+#[tactic(auto, using(wire::specs::LenEncLaws::byte_str_within))]
+pub(crate) fn date_at(s: &[u8], at: usize) -> Result<Parsed<Value>, Refusal>
+    ensures { said_of result ≡ kind_at Day false s.now at }
 {
-    match wire::checked_eat_u8_str(s, at) {
-        ReadStr::Done(p) => {
-            let date = date_of(wire::part(s, p.at, p.len));
-            let next = p.at + p.len;
-            ReadValue::Done(GotValue {
-                value: Value::Date(date),
-                next,
-            })
-        }
-        ReadStr::Refused(r) => ReadValue::Refused(r),
-    }
+    let body = wire::checked_eat_u8_str(s, at)?;
+    Ok(Parsed {
+        value: Value::Date(date_of(wire::part(s, body.at, body.len))),
+        next: body.at + body.len,
+    })
 }
 
-pub(crate) fn time_at(s: &[u8], at: usize) -> ReadValue
-    ensures { value_said result ≡ kind_at Clock false s.now at }
+#[tactic(auto, unfolding(duration::specs::Time::time_at))]
+pub(crate) fn time_at(s: &[u8], at: usize) -> Result<Parsed<Value>, Refusal>
+    ensures { said_of result ≡ kind_at Clock false s.now at }
 {
-    match duration::read_time(s, at) {
-        ReadTime::Done(t) => {
-            let time = t.time;
-            let next = t.next;
-            ReadValue::Done(GotValue {
-                value: Value::Time(time),
-                next,
-            })
-        }
-        ReadTime::Refused(r) => ReadValue::Refused(r),
-    }
+    let time = duration::read_time(s, at)?;
+    Ok(Parsed {
+        value: Value::Time(time.value),
+        next: time.next,
+    })
 }

@@ -1,10 +1,7 @@
 -- Numbers of a fixed width: "low byte first" (MySQL's document, "Fixed-Length Integer Types"). Once, for every width.
+use Rattle.wire.specs.declared.Parsed.{Parsed}
 use Rattle.std.specs.Prelude.{ℕ, zero, suc, ◌+◌, ◌*◌, ◌/◌, ◌%◌, List, [], ◌∷◌, length, take, drop, leb}
-use Rattle.refusal.specs.Number.{number}
-use Rattle.refusal.specs.Said.{Said, gives, refused, check}
-use Rattle.wire.specs.declared.Num.{Num}
-use Rattle.wire.specs.declared.ReadNum.{ReadNum}
-use Rattle.wire.specs.declared.ReadNum.TheVariants.{Done, Refused}
+use Rattle.refusal.specs.Said.{Said, gives, check}
 
 -- the number that the bytes of a list spell
 unfoldable pub le_of : List ℕ → ℕ
@@ -21,10 +18,5 @@ le_bytes zero v = []
 le_bytes (suc k) v = v % 256 ∷ le_bytes k (v / 256)
 
 -- reading k bytes at a place: the number and the place behind it, or 8
-unfoldable pub num_at : List ℕ → ℕ → ℕ → Said Num
+unfoldable pub num_at : List ℕ → ℕ → ℕ → Said (Parsed ℕ)
 num_at s at k = check (leb (at + k) (length s)) 8 (gives (record { value = le_at s at k; next = at + k }))
-
--- what the reader's answer says
-abbrev pub num_said : ReadNum → Said Num
-num_said (Done n) = gives n
-num_said (Refused r) = refused (number r)

@@ -1,7 +1,8 @@
 -- Laws of little-endian numbers, over the width.
-use Rattle.std.specs.Prelude.{◌≡◌, refl, List, [], ◌∷◌, take, drop, get_or}
+use Rattle.std.specs.Int.{from_le_bytes}
+use Rattle.std.specs.Prelude.{◌++◌, ◌≡◌, refl, List, [], ◌∷◌, take, drop, get_or}
 use Rattle.std.proofs.Math.Path.{sym, ap}
-use Rattle.std.proofs.Common.{◌∙◌, subst, add-zero, length-take, length-drop, drop_of_length-le, get_or-drop, pow_mono, pow-add}
+use Rattle.std.proofs.Common.{w64, ◌∙◌, subst, add-zero, length-take, length-drop, drop_of_length-le, get_or-drop, pow_mono, pow-add}
 use Prim.Native.Nat.{ℕ, zero, suc, ◌+◌, ◌*◌, ◌/◌, ◌%◌, ◌≤◌, ◌<◌, ◌^◌, ◌-◌}
 use native.Mathlib.Omega.{arith}
 use Rattle.std.proofs.Math.ListN.{length}
@@ -109,10 +110,53 @@ le_forth (b ∷ bs) h =
     let f : (b + 256 * le_of bs) / 256 ≡ le_of bs = omega arith in
     rw (e, f) (ap (λ (x : List ℕ). b ∷ x) (le_forth bs (λ i q. h (suc i) (omega arith))))
 
+part_bytes : (s : List ℕ) (at k : ℕ) → at + k ≤ length s → ((i : ℕ) → get_or s i 0 < 256)
+    → (i : ℕ) → i < length (take k (drop at s)) → get_or (take k (drop at s)) i 0 < 256
+part_bytes s at k h byte i q = let q' : i < k = omega (arith, part_length s at k h) in rw (get_or-take, get_or-drop) (byte (at + i))
+
 -- the k bytes at a place, as the number that they spell and back
 pub le_part : (s : List ℕ) (at k : ℕ) → at + k ≤ length s → ((i : ℕ) → get_or s i 0 < 256) → le_bytes k (le_at s at k) ≡ take k (drop at s)
 le_part s at k h byte =
     let part = take k (drop at s) in
-    let n : length part ≡ k = part_length s at k h in
-    let small : (i : ℕ) → i < length part → get_or part i 0 < 256 = λ i q. let q' : i < k = omega (arith, n) in rw (get_or-take, get_or-drop) (byte (at + i)) in
-    subst (λ (j : ℕ). le_bytes j (le_of part) ≡ part) n (le_forth part small)
+    subst (λ (j : ℕ). le_bytes j (le_of part) ≡ part) (part_length s at k h) (le_forth part (part_bytes s at k h byte))
+
+-- ---- zeros behind a number's bytes are nothing, and fewer bytes are a smaller number
+
+pub le_padded : (bs zs : List ℕ) → le_of zs ≡ 0 → le_of (bs ++ zs) ≡ le_of bs
+unfolding le_of
+le_padded [] zs e = e
+le_padded (b ∷ bs) zs e = rw (le_padded bs zs e)
+
+pub le_zeros : (zs : List ℕ) (k : ℕ) → le_of zs ≡ 0 → le_of (drop k zs) ≡ 0
+unfolding le_of
+le_zeros zs zero e = e
+le_zeros [] (suc k) e = e
+le_zeros (z ∷ zs) (suc k) e = le_zeros zs k (omega arith)
+
+pub le_less : (bs : List ℕ) → ((i : ℕ) → i < length bs → get_or bs i 0 < 256) → le_of bs < 2 ^ (8 * length bs)
+unfolding le_of
+le_less [] h = omega arith
+le_less (b ∷ bs) h =
+    let l : b < 256 = h 0 (omega arith) in
+    let m = le_less bs (λ i q. h (suc i) (omega arith)) in
+    let e : 8 * suc (length bs) ≡ 8 * length bs + 8 = omega arith in
+    rw (e, pow-add) (omega arith)
+
+pub le_at_less : (s : List ℕ) (at k : ℕ) → at + k ≤ length s → ((i : ℕ) → get_or s i 0 < 256) → le_at s at k < 2 ^ (8 * k)
+le_at_less s at k h byte =
+    let n = part_length s at k h in
+    subst (λ (j : ℕ). le_at s at k < 2 ^ (8 * j)) n (le_less (take k (drop at s)) (part_bytes s at k h byte))
+
+-- the library's eight bytes
+pub le_eight : (bs : List ℕ) → length bs ≡ 8 → from_le_bytes w64 bs ≡ le_of bs
+unfolding le_of
+le_eight (a ∷ b ∷ c ∷ d ∷ e ∷ f ∷ g ∷ h ∷ []) l = omega arith
+le_eight (a ∷ b ∷ c ∷ d ∷ e ∷ f ∷ g ∷ h ∷ i ∷ bs) l = absurd (omega arith)
+le_eight (a ∷ b ∷ c ∷ d ∷ e ∷ f ∷ g ∷ []) l = absurd (omega arith)
+le_eight (a ∷ b ∷ c ∷ d ∷ e ∷ f ∷ []) l = absurd (omega arith)
+le_eight (a ∷ b ∷ c ∷ d ∷ e ∷ []) l = absurd (omega arith)
+le_eight (a ∷ b ∷ c ∷ d ∷ []) l = absurd (omega arith)
+le_eight (a ∷ b ∷ c ∷ []) l = absurd (omega arith)
+le_eight (a ∷ b ∷ []) l = absurd (omega arith)
+le_eight (a ∷ []) l = absurd (omega arith)
+le_eight [] l = absurd (omega arith)

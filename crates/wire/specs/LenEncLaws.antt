@@ -1,4 +1,6 @@
 -- Laws of length-encoded integers and strings, for callers: the four shapes, what was written is read back, parts lie within.
+use Rattle.wire.specs.declared.Text.{Text}
+use Rattle.wire.specs.declared.Parsed.{Parsed}
 use Rattle.std.specs.Prelude.{◌≡◌, refl, Bool, true, false, cond, ℕ, zero, suc, ◌+◌, ◌/◌, ◌≤◌, ◌<◌, ◌^◌, take, get_or, leb, ltb}
 use Rattle.std.proofs.Common.{sym, ◌∙◌, arith, div-lt_iff_lt-mul, pow-suc, add-zero}
 use Rattle.std.proofs.Math.Path.{ap}
@@ -11,8 +13,6 @@ use Rattle.refusal.specs.Said.{Said, gives, refused, check, and_then}
 use Rattle.wire.specs.Le.{le_of, le_bytes}
 use Rattle.wire.specs.LeLaws.{le_length}
 use Rattle.wire.specs.LenEnc.{len_at, by_lead, led, len_enc_int, len_bytes, str_at, byte_str_at, within, str_bytes, part_of}
-use Rattle.wire.specs.declared.LenEncInt.{LenEncInt}
-use Rattle.wire.specs.declared.LenEncStr.{LenEncStr}
 
 -- ---- the four shapes of a written integer
 
@@ -147,29 +147,29 @@ part_back s at bs t e =
     drop_at_seam a b = lib.Seq.drop-append_seam a b
 
 -- a string that was read lies within the bytes
-within_by : (s : List ℕ) (at n : ℕ) (p : LenEncStr) (b : Bool) → leb (at + n) (length s) ≡ b
+within_by : (s : List ℕ) (at n : ℕ) (p : Text) (b : Bool) → leb (at + n) (length s) ≡ b
     → cond b (gives (record { at = at; len = n })) (refused 8) ≡ gives p → p.at + p.len ≤ length s
 within_by s at n p true t e =
     let q : record { at = at; len = n } ≡ p = cc e in
     rw (← q) (leb-true (at + n) (length s) t)
 within_by s at n p false t e = let z : ◌≡◌ {A = ℕ} 0 1 = cc e in absurd (omega arith)
 
-pub within-fits : (s : List ℕ) (at n : ℕ) (p : LenEncStr) → within s at n ≡ gives p → p.at + p.len ≤ length s
+pub within-fits : (s : List ℕ) (at n : ℕ) (p : Text) → within s at n ≡ gives p → p.at + p.len ≤ length s
 within-fits s at n p e = within_by s at n p (leb (at + n) (length s)) refl e
 
-str_by : (s : List ℕ) (p : LenEncStr) (l : Said LenEncInt) → and_then l (λ n. within s n.next n.value) ≡ gives p → p.at + p.len ≤ length s
+str_by : (s : List ℕ) (p : Text) (l : Said (Parsed ℕ)) → and_then l (λ n. within s n.next n.value) ≡ gives p → p.at + p.len ≤ length s
 str_by s p (gives n) e = within-fits s n.next n.value p e
 str_by s p (refused k) e = let z : ◌≡◌ {A = ℕ} 0 1 = cc e in absurd (omega arith)
 
-pub str_within : (s : List ℕ) (at : ℕ) (p : LenEncStr) → str_at s at ≡ gives p → p.at + p.len ≤ length s
+pub str_within : (s : List ℕ) (at : ℕ) (p : Text) → str_at s at ≡ gives p → p.at + p.len ≤ length s
 unfolding str_at
 str_within s at p e = str_by s p (len_at s at) e
 
-byte_str_by : (s : List ℕ) (at : ℕ) (p : LenEncStr) (b : Bool) → check b 8 (within s (at + 1) (get_or s at 0)) ≡ gives p → p.at + p.len ≤ length s
+byte_str_by : (s : List ℕ) (at : ℕ) (p : Text) (b : Bool) → check b 8 (within s (at + 1) (get_or s at 0)) ≡ gives p → p.at + p.len ≤ length s
 byte_str_by s at p true e = within-fits s (at + 1) (get_or s at 0) p e
 byte_str_by s at p false e = let z : ◌≡◌ {A = ℕ} 0 1 = cc e in absurd (omega arith)
 
-pub byte_str_within : (s : List ℕ) (at : ℕ) (p : LenEncStr) → byte_str_at s at ≡ gives p → p.at + p.len ≤ length s
+pub byte_str_within : (s : List ℕ) (at : ℕ) (p : Text) → byte_str_at s at ≡ gives p → p.at + p.len ≤ length s
 unfolding byte_str_at
 byte_str_within s at p e = byte_str_by s at p (ltb at (length s)) e
 

@@ -1,5 +1,6 @@
 -- Laws of a buffer with some bytes put at a place.
-use Rattle.std.specs.Prelude.{◌≡◌, refl, List, [], ◌∷◌, ◌++◌, ℕ, suc, ◌+◌, ◌-◌, ◌≤◌, ◌<◌, length, take, drop, set, Bool, true, false, leb}
+use Rattle.refusal.specs.declared.Refusal.{Refusal}
+use Rattle.std.specs.Prelude.{◌≡◌, refl, List, [], ◌∷◌, ◌++◌, ℕ, suc, ◌+◌, ◌-◌, ◌≤◌, ◌<◌, length, take, drop, set, Bool, true, false, leb, Result, Ok, Err}
 use Rattle.std.proofs.Common.{sym, ap, ◌∙◌, append_assoc, add-one, add_assoc, add-zero, arith, length-set, length-append, length-take}
 use Rattle.std.proofs.Common.{length-drop, take-append-drop, take-add, take-take, take_at, drop_at, drop-drop, length-take-le, le-leb}
 use Rattle.std.proofs.Common.{leb-true, leb-false}
@@ -7,14 +8,9 @@ use Rattle.std.proofs.Math.Seq.{paste, take-length, drop-append-add, append_snoc
 use Rattle.std.proofs.lemmas.List.{take-append-le, drop-append-le, set_split}
 use Rattle.std.proofs.lemmas.List.Edits.{sets-eq}
 use Rattle.std.proofs.lemmas.Bool.{lt-leb}
-use Rattle.refusal.specs.Number.{number_same}
-use Rattle.refusal.specs.Said.{gives, gives_same, refused_same, gives_not_refused}
+use Rattle.refusal.specs.Said.{gives, gives_same, gives_not_refused, said_of, said_same}
 use Rattle.refusal.specs.declared.Refusal.TheVariants.{NoRoom}
-use Rattle.wire.specs.Room.{patch, Wrote, put_said, needed_said}
-use Rattle.wire.specs.declared.Put.{Put}
-use Rattle.wire.specs.declared.Put.TheVariants.{Next, Refused}
-use Rattle.wire.specs.declared.Needed.{Needed}
-use Rattle.wire.specs.declared.Needed.TheVariants as N
+use Rattle.wire.specs.Room.{patch, Wrote}
 
 -- a copy that has come to its end
 pub paste_patch : (d : List ℕ) (at : ℕ) (bs : List ℕ) (n : ℕ) → length bs ≡ n → paste d at bs n ≡ patch d at bs
@@ -181,22 +177,29 @@ module _ (d : List ℕ) (at : ℕ) (s : List ℕ) (r : at + length s ≤ length 
       copy_ended (n - 16 + 16) c₄.1 (omega arith)
 
 -- the two outcomes of a writer
-pub wrote_full : (bs d : List ℕ) (at : ℕ) → length d < at + length bs → Wrote bs d at (Refused NoRoom) d
+pub wrote_full : (bs d : List ℕ) (at : ℕ) → length d < at + length bs → Wrote bs d at (Err NoRoom) d
 wrote_full bs d at h = record { said = simp (lt-leb (at + length bs) (length d) h); left = simp (lt-leb (at + length bs) (length d) h) }
 
 pub wrote_next : (bs d : List ℕ) (at n : ℕ) (d' : List ℕ) → at + length bs ≤ length d → n ≡ at + length bs → d' ≡ patch d at bs
-    → Wrote bs d at (Next n) d'
+    → Wrote bs d at (Ok n) d'
 wrote_next bs d at n d' h e p = record { said = simp (le-leb (at + length bs) (length d) h) (ap gives e); left = simp (le-leb (at + length bs) (length d) h) p }
 
 -- where the bytes fit, a writer has left them there and says the place behind them
-pub wrote_left : {bs d : List ℕ} {at : ℕ} {r : Put} {d' : List ℕ} → Wrote bs d at r d' → at + length bs ≤ length d → d' ≡ patch d at bs
+pub wrote_left : {bs d : List ℕ} {at : ℕ} {r : Result ℕ Refusal} {d' : List ℕ} → Wrote bs d at r d' → at + length bs ≤ length d → d' ≡ patch d at bs
 wrote_left {bs} {d} {at} w h = rw (le-leb (at + length bs) (length d) h) at w.left
 
-pub wrote_said : {bs d : List ℕ} {at : ℕ} {r : Put} {d' : List ℕ} → Wrote bs d at r d' → at + length bs ≤ length d → put_said r ≡ gives (at + length bs)
+pub wrote_said : {bs d : List ℕ} {at : ℕ} {r : Result ℕ Refusal} {d' : List ℕ} → Wrote bs d at r d' → at + length bs ≤ length d → said_of r ≡ gives (at + length bs)
 wrote_said {bs} {d} {at} w h = rw (le-leb (at + length bs) (length d) h) at w.said
 
 -- other bytes of the same list
-pub wrote_as : {bs bs' d : List ℕ} {at : ℕ} {r : Put} {d' : List ℕ} → bs ≡ bs' → Wrote bs' d at r d' → Wrote bs d at r d'
+-- where there is room, a writer answers the place behind what it wrote, and no refusal
+pub wrote_place : {bs d : List ℕ} {at n : ℕ} {d' : List ℕ} → Wrote bs d at (Ok n) d' → at + length bs ≤ length d → n ≡ at + length bs
+wrote_place w h = gives_same (wrote_said w h)
+
+pub wrote_refused : {bs d : List ℕ} {at : ℕ} {q : Refusal} {d' : List ℕ} → Wrote bs d at (Err q) d' → at + length bs ≤ length d → ⊥
+wrote_refused w h = gives_not_refused (sym (wrote_said w h))
+
+pub wrote_as : {bs bs' d : List ℕ} {at : ℕ} {r : Result ℕ Refusal} {d' : List ℕ} → bs ≡ bs' → Wrote bs' d at r d' → Wrote bs d at r d'
 wrote_as e w = rw e w
 
 -- what a test that was made by `has` tells
@@ -208,17 +211,5 @@ has_no a n e t = leb-false a n (sym e ∙ t)
 
 -- ---- what an answer says determines it, and a contract what it leaves
 
-pub put_same : (a b : Put) → put_said a ≡ put_said b → a ≡ b
-put_same (Next m) (Next n) e = ap Next (gives_same e)
-put_same (Next m) (Refused q) e = absurd (gives_not_refused e)
-put_same (Refused r) (Next n) e = absurd (gives_not_refused (sym e))
-put_same (Refused r) (Refused q) e = ap Refused (number_same r q (refused_same e))
-
-pub needed_same : (a b : Needed) → needed_said a ≡ needed_said b → a ≡ b
-needed_same (N.Bytes m) (N.Bytes n) e = ap N.Bytes (gives_same e)
-needed_same (N.Bytes m) (N.Refused q) e = absurd (gives_not_refused e)
-needed_same (N.Refused r) (N.Bytes n) e = absurd (gives_not_refused (sym e))
-needed_same (N.Refused r) (N.Refused q) e = ap N.Refused (number_same r q (refused_same e))
-
-pub wrote_same : {bs d : List ℕ} {at : ℕ} {a b : Put} {d₁ d₂ : List ℕ} → Wrote bs d at a d₁ → Wrote bs d at b d₂ → (a ≡ b) × (d₁ ≡ d₂)
-wrote_same {a = a} {b = b} v w = (put_same a b (v.said ∙ sym w.said), v.left ∙ sym w.left)
+pub wrote_same : {bs d : List ℕ} {at : ℕ} {a b : Result ℕ Refusal} {d₁ d₂ : List ℕ} → Wrote bs d at a d₁ → Wrote bs d at b d₂ → (a ≡ b) × (d₁ ≡ d₂)
+wrote_same {a = a} {b = b} v w = (said_same a b (v.said ∙ sym w.said), v.left ∙ sym w.left)

@@ -6,150 +6,113 @@
 // then no byte has changed. Nothing is demanded of a caller: any place and any length has its answer.
 #![tactic(auto)]
 
+ghost use Rattle.refusal.specs.Said.{said_of};
 ghost use Rattle.std.specs.Prelude.{◌≡◌, ◌∷◌, ◌+◌, ◌≤◌, ◌<◌, ◌^◌, length};
-ghost use Rattle.wire.specs.Le.{num_at, num_said, le_bytes};
-ghost use Rattle.wire.specs.LenEnc.{int_said, len_at, led, len_bytes, str_said, str_at, byte_str_at, within, str_bytes, part_of};
+ghost use Rattle.wire.specs.Le.{num_at, le_bytes};
+ghost use Rattle.wire.specs.LenEnc.{len_at, led, len_bytes, str_at, byte_str_at, within, str_bytes, part_of};
 ghost use Rattle.wire.specs.Room.{Wrote};
 
 use refusal::Refusal;
 
 pub mod inner;
 
-// A number that was read, and the place behind it.
-#[derive(Clone, Copy)]
-pub struct Num {
-    pub value: u64,
+// What was read, and the place behind it.
+#[derive(Clone, Copy, PartialEq, Eq)]
+pub struct Parsed<T> {
+    pub value: T,
     pub next: usize,
-}
-
-#[derive(Clone, Copy)]
-pub enum ReadNum {
-    Done(Num),
-    Refused(Refusal),
-}
-
-// A length-encoded integer that was read, and the place behind it.
-#[derive(Clone, Copy)]
-pub struct LenEncInt {
-    pub value: u64,
-    pub next: usize,
-}
-
-#[derive(Clone, Copy)]
-pub enum ReadInt {
-    Done(LenEncInt),
-    Refused(Refusal),
 }
 
 // A string that was read: the `len` bytes at the place `at` of the caller's bytes. It ends at `at + len`.
-#[derive(Clone, Copy)]
-pub struct LenEncStr {
+#[derive(Clone, Copy, PartialEq, Eq)]
+pub struct Text {
     pub at: usize,
     pub len: usize,
 }
 
-#[derive(Clone, Copy)]
-pub enum ReadStr {
-    Done(LenEncStr),
-    Refused(Refusal),
-}
-
-// What a writer answers: the place behind what was written, or why nothing was.
-#[derive(Clone, Copy)]
-pub enum Put {
-    Next(usize),
-    Refused(Refusal),
-}
-
-// How many bytes a writer would take, for a caller who asks first; or 6, where no buffer could hold them.
-#[derive(Clone, Copy)]
-pub enum Needed {
-    Bytes(usize),
-    Refused(Refusal),
-}
-
 // ---- numbers of a fixed width
 
-fn checked_eat_uint_le(s: &[u8], at: usize, k: usize) -> ReadNum
+#[tactic(auto, using(crate::specs::RoomLaws::has_yes, crate::specs::RoomLaws::has_no), unfolding(crate::specs::Le::num_at))]
+fn checked_eat_uint_le(s: &[u8], at: usize, k: usize) -> Result<Parsed<u64>, Refusal>
     requires { k ≤ 8 }
-    ensures { num_said result ≡ num_at s.now at k }
+    ensures { said_of result ≡ num_at s.now at k }
 {
     if inner::has(s, at, k) {
         let value = inner::le(s, at, k);
         let next = at + k;
-        ReadNum::Done(Num { value, next })
+        Ok(Parsed { value, next })
     } else {
-        ReadNum::Refused(Refusal::Short)
+        Err(Refusal::Short)
     }
 }
 
-pub fn checked_eat_u8(s: &[u8], at: usize) -> ReadNum
-    ensures { num_said result ≡ num_at s.now at 1 }
+pub fn checked_eat_u8(s: &[u8], at: usize) -> Result<Parsed<u64>, Refusal>
+    ensures { said_of result ≡ num_at s.now at 1 }
 {
     checked_eat_uint_le(s, at, 1)
 }
 
-pub fn checked_eat_u16_le(s: &[u8], at: usize) -> ReadNum
-    ensures { num_said result ≡ num_at s.now at 2 }
+pub fn checked_eat_u16_le(s: &[u8], at: usize) -> Result<Parsed<u64>, Refusal>
+    ensures { said_of result ≡ num_at s.now at 2 }
 {
     checked_eat_uint_le(s, at, 2)
 }
 
-pub fn checked_eat_u24_le(s: &[u8], at: usize) -> ReadNum
-    ensures { num_said result ≡ num_at s.now at 3 }
+pub fn checked_eat_u24_le(s: &[u8], at: usize) -> Result<Parsed<u64>, Refusal>
+    ensures { said_of result ≡ num_at s.now at 3 }
 {
     checked_eat_uint_le(s, at, 3)
 }
 
-pub fn checked_eat_u32_le(s: &[u8], at: usize) -> ReadNum
-    ensures { num_said result ≡ num_at s.now at 4 }
+pub fn checked_eat_u32_le(s: &[u8], at: usize) -> Result<Parsed<u64>, Refusal>
+    ensures { said_of result ≡ num_at s.now at 4 }
 {
     checked_eat_uint_le(s, at, 4)
 }
 
-pub fn checked_eat_u64_le(s: &[u8], at: usize) -> ReadNum
-    ensures { num_said result ≡ num_at s.now at 8 }
+pub fn checked_eat_u64_le(s: &[u8], at: usize) -> Result<Parsed<u64>, Refusal>
+    ensures { said_of result ≡ num_at s.now at 8 }
 {
     checked_eat_uint_le(s, at, 8)
 }
 
-fn put_uint_le(dst: &mut [u8], at: usize, k: usize, v: u64) -> Put
+fn put_uint_le(dst: &mut [u8], at: usize, k: usize, v: u64) -> Result<usize, Refusal>
     ensures { Wrote (le_bytes k v) dst.old at result dst.new }
 {
     if inner::has(dst, at, k) {
         inner::put_le(dst, at, k, v);
-        Put::Next(at + k)
+        Ok(at + k)
     } else {
-        Put::Refused(Refusal::NoRoom)
+        Err(Refusal::NoRoom)
     }
 }
 
-pub fn put_u8(dst: &mut [u8], at: usize, v: u8) -> Put
+pub fn put_u8(dst: &mut [u8], at: usize, v: u8) -> Result<usize, Refusal>
     ensures { Wrote (le_bytes 1 v) dst.old at result dst.new }
 {
     put_uint_le(dst, at, 1, v as u64)
 }
 
-pub fn put_u16_le(dst: &mut [u8], at: usize, v: u16) -> Put
+pub fn put_u16_le(dst: &mut [u8], at: usize, v: u16) -> Result<usize, Refusal>
     ensures { Wrote (le_bytes 2 v) dst.old at result dst.new }
 {
     put_uint_le(dst, at, 2, v as u64)
 }
 
 // The low three bytes of a number, as the Rust writes them.
-pub fn put_u24_le(dst: &mut [u8], at: usize, v: u32) -> Put
+pub fn put_u24_le(dst: &mut [u8], at: usize, v: u32) -> Result<usize, Refusal>
     ensures { Wrote (le_bytes 3 v) dst.old at result dst.new }
 {
     put_uint_le(dst, at, 3, v as u64)
 }
 
-pub fn put_u32_le(dst: &mut [u8], at: usize, v: u32) -> Put
+pub fn put_u32_le(dst: &mut [u8], at: usize, v: u32) -> Result<usize, Refusal>
     ensures { Wrote (le_bytes 4 v) dst.old at result dst.new }
 {
     put_uint_le(dst, at, 4, v as u64)
 }
 
-pub fn put_u64_le(dst: &mut [u8], at: usize, v: u64) -> Put
+pub fn put_u64_le(dst: &mut [u8], at: usize, v: u64) -> Result<usize, Refusal>
     ensures { Wrote (le_bytes 8 v) dst.old at result dst.new }
 {
     put_uint_le(dst, at, 8, v)
@@ -158,42 +121,43 @@ pub fn put_u64_le(dst: &mut [u8], at: usize, v: u64) -> Put
 // ---- length-encoded integers
 
 // The integer whose lead byte is at a place and has k bytes behind it.
-fn eat_led(s: &[u8], at: usize, k: usize) -> ReadInt
+fn eat_led(s: &[u8], at: usize, k: usize) -> Result<Parsed<u64>, Refusal>
     requires { (k ≤ 8) × (at + 1 ≤ length s.now) }
-    ensures { int_said result ≡ led s.now at k }
+    ensures { said_of result ≡ led s.now at k }
 {
     let body = at + 1;
     if k <= s.len() - body {
         let value = inner::le(s, body, k);
         let next = body + k;
-        ReadInt::Done(LenEncInt { value, next })
+        Ok(Parsed { value, next })
     } else {
-        ReadInt::Refused(Refusal::Short)
+        Err(Refusal::Short)
     }
 }
 
-pub fn checked_eat_lenenc_int(s: &[u8], at: usize) -> ReadInt
-    ensures { int_said result ≡ len_at s.now at }
+#[tactic(auto, unfolding(crate::specs::LenEnc::len_at))]
+pub fn checked_eat_lenenc_int(s: &[u8], at: usize) -> Result<Parsed<u64>, Refusal>
+    ensures { said_of result ≡ len_at s.now at }
 {
     if s.len() <= at {
-        return ReadInt::Refused(Refusal::Short);
+        return Err(Refusal::Short);
     }
     let b = s[at];
     if b < 251 {
         let value = b as u64;
         let next = at + 1;
-        return ReadInt::Done(LenEncInt { value, next });
+        return Ok(Parsed { value, next });
     }
     match b {
         0xFC => eat_led(s, at, 2),
         0xFD => eat_led(s, at, 3),
         0xFE => eat_led(s, at, 8),
-        _ => ReadInt::Refused(Refusal::BadLead),
+        _ => Err(Refusal::BadLead),
     }
 }
 
 // A lead byte, and a number in k bytes behind it.
-fn put_led(dst: &mut [u8], at: usize, lead: u8, k: usize, v: u64) -> Put
+fn put_led(dst: &mut [u8], at: usize, lead: u8, k: usize, v: u64) -> Result<usize, Refusal>
     requires { k ≤ 8 }
     ensures { Wrote (lead ∷ le_bytes k v) dst.old at result dst.new }
 {
@@ -201,14 +165,14 @@ fn put_led(dst: &mut [u8], at: usize, lead: u8, k: usize, v: u64) -> Put
         dst[at] = lead;
         let body = at + 1;
         inner::put_le(dst, body, k, v);
-        Put::Next(body + k)
+        Ok(body + k)
     } else {
-        Put::Refused(Refusal::NoRoom)
+        Err(Refusal::NoRoom)
     }
 }
 
 // The shortest form of a number.
-pub fn put_lenenc_int(dst: &mut [u8], at: usize, v: u64) -> Put
+pub fn put_lenenc_int(dst: &mut [u8], at: usize, v: u64) -> Result<usize, Refusal>
     ensures { Wrote (len_bytes v) dst.old at result dst.new }
 {
     if v < 251 {
@@ -224,6 +188,7 @@ pub fn put_lenenc_int(dst: &mut [u8], at: usize, v: u64) -> Put
 }
 
 // How many bytes `put_lenenc_int` takes for a number.
+#[tactic(auto, using(crate::specs::LenEncLaws::len_1, crate::specs::LenEncLaws::len_3, crate::specs::LenEncLaws::len_4, crate::specs::LenEncLaws::len_9), unfolding(crate::specs::Le::le_bytes))]
 pub fn lenenc_int_len(v: u64) -> usize
     ensures { result ≡ length (len_bytes v) }
 {
@@ -249,19 +214,20 @@ pub fn lenenc_str_len(s: &[u8]) -> usize
 }
 
 // The part of n bytes at a place, if the bytes have it.
-fn eat_within(s: &[u8], at: usize, n: u64) -> ReadStr
-    ensures { str_said result ≡ within s.now at n }
+fn eat_within(s: &[u8], at: usize, n: u64) -> Result<Text, Refusal>
+    ensures { said_of result ≡ within s.now at n }
 {
     let len = n as usize;
     if inner::has(s, at, len) {
-        ReadStr::Done(LenEncStr { at, len })
+        Ok(Text { at, len })
     } else {
-        ReadStr::Refused(Refusal::Short)
+        Err(Refusal::Short)
     }
 }
 
-pub fn checked_eat_lenenc_str(s: &[u8], at: usize) -> ReadStr
-    ensures { str_said result ≡ str_at s.now at }
+#[tactic(auto, using(crate::specs::LenEncLaws::str_short, refusal::specs::Said::then_ok, refusal::specs::Said::then_err), unfolding(crate::specs::LenEnc::str_at))]
+pub fn checked_eat_lenenc_str(s: &[u8], at: usize) -> Result<Text, Refusal>
+    ensures { said_of result ≡ str_at s.now at }
 {
     if at < s.len() {
         let short = s[at];
@@ -269,62 +235,60 @@ pub fn checked_eat_lenenc_str(s: &[u8], at: usize) -> ReadStr
             return eat_within(s, at + 1, short as u64);
         }
     }
-    match checked_eat_lenenc_int(s, at) {
-        ReadInt::Done(n) => eat_within(s, n.next, n.value),
-        ReadInt::Refused(r) => ReadStr::Refused(r),
-    }
+    let n = checked_eat_lenenc_int(s, at)?;
+    eat_within(s, n.next, n.value)
 }
 
 // A string behind a length byte, as dates and times are.
-pub fn checked_eat_u8_str(s: &[u8], at: usize) -> ReadStr
-    ensures { str_said result ≡ byte_str_at s.now at }
+#[tactic(auto, unfolding(crate::specs::LenEnc::byte_str_at))]
+pub fn checked_eat_u8_str(s: &[u8], at: usize) -> Result<Text, Refusal>
+    ensures { said_of result ≡ byte_str_at s.now at }
 {
     if s.len() <= at {
-        return ReadStr::Refused(Refusal::Short);
+        return Err(Refusal::Short);
     }
     let n = s[at];
     eat_within(s, at + 1, n as u64)
 }
 
 // The part itself; empty where the place and the length don't fit.
+#[tactic(auto, unfolding(crate::specs::LenEnc::part_of))]
 pub fn part(s: &[u8], at: usize, n: usize) -> &[u8]
     ensures { result.now ≡ part_of s.now at n }
 {
-    if at <= s.len() {
-        if n <= s.len() - at {
-            return &s[at..at + n];
-        }
+    if inner::has(s, at, n) {
+        &s[at..at + n]
+    } else {
+        &[]
     }
-    &s[..0]
 }
 
 // The bytes themselves.
-pub fn put_slice(dst: &mut [u8], at: usize, src: &[u8]) -> Put
+#[tactic(auto, using(crate::specs::RoomLaws::has_yes, crate::specs::RoomLaws::has_no, crate::specs::RoomLaws::wrote_full, crate::specs::RoomLaws::wrote_next))]
+pub fn put_slice(dst: &mut [u8], at: usize, src: &[u8]) -> Result<usize, Refusal>
     ensures { Wrote src.now dst.old at result dst.new }
 {
     if inner::has(dst, at, src.len()) {
         inner::copy(dst, at, src);
-        Put::Next(at + src.len())
+        Ok(at + src.len())
     } else {
-        Put::Refused(Refusal::NoRoom)
+        Err(Refusal::NoRoom)
     }
 }
 
 // The bytes behind their length.
-pub fn put_lenenc_str(dst: &mut [u8], at: usize, src: &[u8]) -> Put
+pub fn put_lenenc_str(dst: &mut [u8], at: usize, src: &[u8]) -> Result<usize, Refusal>
     ensures { Wrote (str_bytes src.now) dst.old at result dst.new }
 {
     let n = src.len();
     if dst.len() < n {
-        return Put::Refused(Refusal::NoRoom);
+        return Err(Refusal::NoRoom);
     }
     let head = lenenc_int_len(n as u64);
-    if inner::has(dst, at, head + n) {
-        put_lenenc_int(dst, at, n as u64);
-        let body = at + head;
-        inner::copy(dst, body, src);
-        Put::Next(body + n)
-    } else {
-        Put::Refused(Refusal::NoRoom)
+    if !inner::has(dst, at, head + n) {
+        return Err(Refusal::NoRoom);
     }
+    let body = put_lenenc_int(dst, at, n as u64)?;
+    inner::copy(dst, body, src);
+    Ok(body + n)
 }

@@ -10,15 +10,6 @@ returns-then-codec c =
     let a = c.args in
     sym (read-closed largest a.x a.codec a.src.now a.dst.now c.if-codec.true)
 
-pub loop-answer-init : goal.loop-answer-init
-loop-answer-init c = head_first _ _ _ _
-
-pub slice_bounds-turn-count : goal.slice_bounds-turn-count
-slice_bounds-turn-count c = omega arith
-
-pub turn-t-requires : goal.turn-t-requires
-turn-t-requires c = tt
-
 pub overflow_add-at : goal.overflow_add-at
 overflow_add-at c =
     let t = c in
@@ -48,11 +39,6 @@ loop-answer-preserved c =
     let a = l.args in
     head_more a.dst.now a.x a.src.now a.codec l.loop-answer.dst l.loop-answer.at l.loop-answer.st l.loop-answer.invariant
     (turned_of t.turn-t.result t.turn-t.new.dst) t.turn-t.ensures c.if-t.true t.turn-t.auto.dst
-
-pub shape_of-dst-else-t : goal.shape_of-dst-else-t
-shape_of-dst-else-t c =
-    let t = c in
-    omega (arith, t.turn-t.auto.dst, t.loop-answer.invariant.same)
 
 pub returns-else-t : goal.returns-else-t
 returns-else-t c =

@@ -21,9 +21,6 @@ returns-then-dst-n c =
     let n = c.chunks_len-n.ensures in
     rw (write_no_room largest a.codec a.packet.now a.dst.now live.if-codec.false within.if-codec-packet.false (omega (arith, n)), c.unsent-then-dst-n.ensures)
 
-pub put_chunks-number-requires : goal.put_chunks-number-requires
-put_chunks-number-requires c = omega (arith, c.chunks_len-n.ensures)
-
 pub returns : goal.returns
 returns c =
     let sized = c in

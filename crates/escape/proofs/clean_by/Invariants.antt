@@ -1,11 +1,8 @@
 use Rattle.escape.specs.QuoteLaws.{mores}
-use lib.ListN.{length, take}
+use lib.ListN.{take}
 use mathlib.Core.Path.{◌≡◌}
-use Prim.Native.Nat.{◌-◌, ◌<◌}
+use Prim.Native.Nat.{◌*◌}
 use Rattle.escape.proofs.clean_by.Given as goal
 
-abbrev pub invariant-loop-i : goal.invariant-loop-i
-invariant-loop-i l = (l.i < length l.input) × (mores l.no_backslash_escape (take l.i l.input) ≡ 0)
-
-abbrev pub decreases-loop-i : goal.decreases-loop-i
-decreases-loop-i l = length l.input - l.i
+abbrev pub invariant-loop-part : goal.invariant-loop-part
+invariant-loop-part g l = mores l.no_backslash_escape (take (l.part-index * g.row.K) l.input) ≡ 0

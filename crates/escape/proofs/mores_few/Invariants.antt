@@ -1,11 +1,7 @@
 use Rattle.escape.specs.QuoteLaws.{mores}
-use lib.ListN.{length, drop}
+use lib.ListN.{take}
 use mathlib.Core.Path.{◌≡◌}
-use Prim.Native.Nat.{◌+◌, ◌-◌, ◌≤◌}
 use Rattle.escape.proofs.mores_few.Given as goal
 
-abbrev pub invariant-loop-i : goal.invariant-loop-i
-invariant-loop-i l = (l.i ≤ length l.input) × (l.n + mores l.no_backslash_escape (drop l.i l.input) ≡ mores l.no_backslash_escape l.input)
-
-abbrev pub decreases-loop-i : goal.decreases-loop-i
-decreases-loop-i l = length l.input - l.i
+abbrev pub invariant-loop-b : goal.invariant-loop-b
+invariant-loop-b l = l.n ≡ mores l.no_backslash_escape (take l.b-index l.input)

@@ -4,6 +4,6 @@ use Rattle.wire.specs.TableLaws.{every}
 use mathlib.Core.Path.{refl}
 use Rattle.escape.proofs.put_all.Goals as goal
 
-pub put_turns-requires : goal.put_turns-requires
+pub invariant_of-put_turns : goal.invariant_of-put_turns
 unfolding every behind
-put_turns-requires c = (c.requires, marks_of _ refl refl)
+invariant_of-put_turns c = record { right = marks_of _ refl refl }

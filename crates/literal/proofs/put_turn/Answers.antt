@@ -13,124 +13,96 @@ use Prim.Native.Nat.{ℕ, ◌+◌, ◌-◌, ◌≤◌, ◌<◌}
 use Rattle.literal.proofs.put_turn.Goals as goal
 
 -- where the run ends: before the input's end, with a sound rest
-module _ (m : Bool) (s : List ℕ) (at other k : ℕ) (e : k ≡ at + clean_run other (drop at s)) (f : other ≡ first_of m) (h : Sound m s at) where
-  run : k ≡ at + clean_run (first_of m) (drop at s)
-  run = e ∙ ap (λ (x : ℕ). at + clean_run x (drop at s)) f
+module _ (m : Bool) (s : List ℕ) (at run : ℕ) (r : run ≡ clean_run (first_of m) (drop at s)) (h : Sound m s at) where
+  ends : at + run ≡ at + clean_run (first_of m) (drop at s)
+  ends = ap (λ (n : ℕ). at + n) r
 
-  sound : Sound m s k
-  sound = run_sound m s at k run h
+  sound : Sound m s (at + run)
+  sound = run_sound m s at (at + run) ends h
 
-  within : k < length s
-  within = sound_within m s k sound
+  within : at + run < length s
+  within = sound_within m s (at + run) sound
 
   -- what is written: the run, and then the rest
-  rests : rest m s at ≡ take (k - at) (drop at s) ++ rest m s k
-  rests = run_rest m s at k run h
+  abbrev written : List ℕ
+  written = take (at + run - at) (drop at s)
 
-  count : length (take (k - at) (drop at s)) ≡ k - at
-  count = length-take-le (k - at) (drop at s) (omega (arith, within, length-drop at s))
+  rests : rest m s at ≡ written ++ rest m s (at + run)
+  rests = run_rest m s at (at + run) ends h
 
-  room : length (rest m s at) ≡ k - at + length (rest m s k)
-  room =
-      let l = length-append (take (k - at) (drop at s)) (rest m s k) in
-      omega (arith, ap length rests, l, count)
+  count : length written ≡ run
+  count =
+      let n : at + run - at ≡ run = omega arith in
+      length-take-le (at + run - at) (drop at s) (omega (arith, within, length-drop at s)) ∙ n
 
-  copied : (d d' : List ℕ) (next : ℕ) → next + length (rest m s at) ≤ length d → d' ≡ patch d next (take (k - at) (drop at s))
-      → Passed d next (rest m s at) d' (next + (k - at)) (rest m s k)
-  copied d d' next r p = passed_some next (take (k - at) (drop at s)) (rest m s k) rests r p (ap (λ (n : ℕ). next + n) (sym count))
+  room : length (rest m s at) ≡ run + length (rest m s (at + run))
+  room = omega (arith, ap length rests, length-append written (rest m s (at + run)), count)
+
+  copied : (d d' : List ℕ) (next : ℕ) → next + length (rest m s at) ≤ length d → d' ≡ patch d next written
+      → Passed d next (rest m s at) d' (next + run) (rest m s (at + run))
+  copied d d' next r p = passed_some next written (rest m s (at + run)) rests r p (ap (λ (n : ℕ). next + n) (sym count))
 
   -- two bytes more
-  pair : at ≤ length s → k + 1 < length s
-      → Sound m s (k + 1 + 1) × (rest m s k ≡ escape_means (get_or s (k + 1) 0) ++ rest m s (k + 1 + 1))
+  pair : at ≤ length s → at + run + 1 < length s
+      → Sound m s (at + run + 1 + 1) × (rest m s (at + run) ≡ escape_means (get_or s (at + run + 1) 0) ++ rest m s (at + run + 1 + 1))
   pair a l =
-      let b = run_special m s at a k run within in (
-        pair_sound m s k l b sound,
-        pair_rest m s k l b sound,
+      let b = run_special m s at a (at + run) ends within in (
+        pair_sound m s (at + run) l b sound,
+        pair_rest m s (at + run) l b sound,
       )
-
-pub slice_bounds-copy-end : goal.slice_bounds-copy-end
-slice_bounds-copy-end c =
-    let a = c.args in
-    let r = c.run_end-end in
-    omega (arith, within a.no_backslash_escape a.input.now a.at c.other_of.result r.result r.ensures c.other_of.ensures c.requires.1)
 
 pub copy-requires : goal.copy-requires
 copy-requires c =
-    let a = c.args in
-    let r = c.run_end-end in
-    let l = room a.no_backslash_escape a.input.now a.at c.other_of.result r.result r.ensures c.other_of.ensures c.requires.1 in
-    let n = count a.no_backslash_escape a.input.now a.at c.other_of.result r.result r.ensures c.other_of.ensures c.requires.1 in
-    omega (arith, l, n, c.requires.2)
+    let n = count c.args.no_backslash_escape c.args.input.now c.args.spot.at c.run_len-run.result c.run_len-run.ensures.0 c.requires.1 in
+    omega (arith, n, room c.args.no_backslash_escape c.args.input.now c.args.spot.at c.run_len-run.result c.run_len-run.ensures.0 c.requires.1, c.requires.2)
 
-pub overflow_add-then : goal.overflow_add-then
-overflow_add-then c =
-    let a = c.args in
-    let r = c.run_end-end in
-    omega (arith, room a.no_backslash_escape a.input.now a.at c.other_of.result r.result r.ensures c.other_of.ensures c.requires.1, c.requires.2)
+pub overflow_add-count : goal.overflow_add-count
+overflow_add-count c = omega (arith, room c.args.no_backslash_escape c.args.input.now c.args.spot.at c.run_len-run.result c.run_len-run.ensures.0 c.requires.1, c.requires.2)
 
 pub overflow_add-second : goal.overflow_add-second
-overflow_add-second c =
-    let a = c.args in
-    let r = c.run_end-end in
-    omega (arith, within a.no_backslash_escape a.input.now a.at c.other_of.result r.result r.ensures c.other_of.ensures c.requires.1)
+overflow_add-second c = omega (arith, within c.args.no_backslash_escape c.args.input.now c.args.spot.at c.run_len-run.result c.run_len-run.ensures.0 c.requires.1)
 
 pub returns-then-second-input : goal.returns-then-second-input
-returns-then-second-input c =
-    let a = c.args in
-    let r = c.run_end-end in
-    let o = c.other_of in
-    record {
-      further = omega arith;
-      within = within a.no_backslash_escape a.input.now a.at o.result r.result r.ensures o.ensures c.requires.1;
-      sound = sound a.no_backslash_escape a.input.now a.at o.result r.result r.ensures o.ensures c.requires.1;
-      passed =
-          copied a.no_backslash_escape a.input.now a.at o.result r.result r.ensures o.ensures c.requires.1
-          a.dst.now c.copy.new.dst a.next c.requires.2 c.copy.ensures;
-    }
+returns-then-second-input c = record {
+  further = omega arith;
+  within = within c.args.no_backslash_escape c.args.input.now c.args.spot.at c.run_len-run.result c.run_len-run.ensures.0 c.requires.1;
+  sound = sound c.args.no_backslash_escape c.args.input.now c.args.spot.at c.run_len-run.result c.run_len-run.ensures.0 c.requires.1;
+  passed = copied c.args.no_backslash_escape c.args.input.now c.args.spot.at c.run_len-run.result c.run_len-run.ensures.0 c.requires.1 c.args.dst.now c.copy.new.dst c.args.spot.count c.requires.2 c.copy.ensures;
+}
 
 pub bounds-input-second : goal.bounds-input-second
-bounds-input-second c =
-    let a = c.args in
-    let r = c.run_end-end in
-    omega (arith, within a.no_backslash_escape a.input.now a.at c.other_of.result r.result r.ensures c.other_of.ensures c.requires.1)
+bounds-input-second c = omega (arith, within c.args.no_backslash_escape c.args.input.now c.args.spot.at c.run_len-run.result c.run_len-run.ensures.0 c.requires.1)
 
-pub put_escape-after-requires : goal.put_escape-after-requires
-put_escape-after-requires c =
-    let a = c.args in
-    let r = c.run_end-end in
-    let o = c.other_of in
-    let w = within a.no_backslash_escape a.input.now a.at o.result r.result r.ensures o.ensures c.requires.1 in
-    let two = pair a.no_backslash_escape a.input.now a.at o.result r.result r.ensures o.ensures c.requires.1 (omega arith) (omega arith) in
-    let b = escape_means (get_or a.input.now (r.result + 1) 0) in
-    let l = length-append b (rest a.no_backslash_escape a.input.now (r.result + 1 + 1)) in
-    let n = room a.no_backslash_escape a.input.now a.at o.result r.result r.ensures o.ensures c.requires.1 in
+pub put_escape-requires : goal.put_escape-requires
+put_escape-requires c =
+    let s = c.args.input.now in
+    let second = c.args.spot.at + c.run_len-run.result + 1 in
+    let w = within c.args.no_backslash_escape c.args.input.now c.args.spot.at c.run_len-run.result c.run_len-run.ensures.0 c.requires.1 in
+    let two = pair c.args.no_backslash_escape c.args.input.now c.args.spot.at c.run_len-run.result c.run_len-run.ensures.0 c.requires.1 (omega arith) (omega arith) in
+    let l = length-append (escape_means (get_or s second 0)) (rest c.args.no_backslash_escape s (second + 1)) in
+    let n = room c.args.no_backslash_escape c.args.input.now c.args.spot.at c.run_len-run.result c.run_len-run.ensures.0 c.requires.1 in
     omega (arith, n, c.requires.2, ap length two.1, l, c.copy.auto.dst)
 
 pub overflow_add-result : goal.overflow_add-result
-overflow_add-result c =
-    let a = c.args in
-    let r = c.run_end-end in
-    omega (arith, within a.no_backslash_escape a.input.now a.at c.other_of.result r.result r.ensures c.other_of.ensures c.requires.1)
+overflow_add-result c = omega (arith, within c.args.no_backslash_escape c.args.input.now c.args.spot.at c.run_len-run.result c.run_len-run.ensures.0 c.requires.1)
 
 pub returns : goal.returns
 returns c =
-    let put = c.put_escape-after in
-    let a = c.args in
-    let m = a.no_backslash_escape in
-    let s = a.input.now in
-    let r = c.run_end-end in
-    let k = r.result in
-    let o = c.other_of in
-    let w = within m s a.at o.result k r.ensures o.ensures c.requires.1 in
-    let two = pair m s a.at o.result k r.ensures o.ensures c.requires.1 (omega arith) (omega arith) in
-    let did = copied m s a.at o.result k r.ensures o.ensures c.requires.1 a.dst.now c.copy.new.dst a.next c.requires.2 c.copy.ensures in
-    let h : a.next + (k - a.at) + length (rest m s k) ≤ length c.copy.new.dst =
-    omega (arith, room m s a.at o.result k r.ensures o.ensures c.requires.1, c.requires.2, c.copy.auto.dst) in
+    let put = c.put_escape in
+    let spot = c.args.spot in
+    let s = c.args.input.now in
+    let run = c.run_len-run.result in
+    let second = spot.at + run + 1 in
+    let w = within c.args.no_backslash_escape c.args.input.now c.args.spot.at c.run_len-run.result c.run_len-run.ensures.0 c.requires.1 in
+    let two = pair c.args.no_backslash_escape c.args.input.now c.args.spot.at c.run_len-run.result c.run_len-run.ensures.0 c.requires.1 (omega arith) (omega arith) in
+    let did = copied c.args.no_backslash_escape c.args.input.now c.args.spot.at c.run_len-run.result c.run_len-run.ensures.0 c.requires.1 c.args.dst.now c.copy.new.dst spot.count c.requires.2 c.copy.ensures in
+    let h : spot.count + run + length (rest c.args.no_backslash_escape s (spot.at + run)) ≤ length c.copy.new.dst =
+    omega (arith, room c.args.no_backslash_escape c.args.input.now c.args.spot.at c.run_len-run.result c.run_len-run.ensures.0 c.requires.1, c.requires.2, c.copy.auto.dst) in
     record {
       further = omega arith;
-      within = sound_within m s (k + 1 + 1) two.0;
+      within = sound_within c.args.no_backslash_escape s (second + 1) two.0;
       sound = two.0;
       passed =
           passed_on did
-          (passed_some (a.next + (k - a.at)) (escape_means (get_or s (k + 1) 0)) (rest m s (k + 1 + 1)) two.1 h put.ensures.1 put.ensures.0);
+          (passed_some (spot.count + run) (escape_means (get_or s second 0)) (rest c.args.no_backslash_escape s (second + 1)) two.1 h put.ensures.1 put.ensures.0);
     }

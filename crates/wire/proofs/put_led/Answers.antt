@@ -2,35 +2,11 @@ use Rattle.wire.specs.RoomLaws.{has_yes, has_no, patch_cons, wrote_full, wrote_n
 use Rattle.wire.specs.LeLaws.{le_length}
 use Rattle.wire.specs.Le.{le_bytes}
 use native.Mathlib.Omega.{arith}
-use lib.ListN.{length, length-set}
+use lib.ListN.{length}
 use Prim.Native.Nat.{◌+◌, ◌≤◌}
 use mathlib.Core.List.{◌∷◌}
 use mathlib.Core.Path.{◌∙◌}
 use Rattle.wire.proofs.put_led.Goals as goal
-
-pub bounds-dst-at : goal.bounds-dst-at
-bounds-dst-at c =
-    let a = c.args in
-    omega (arith, has_yes (a.at + (a.k + 1)) (length a.dst.now) c.has.ensures c.if-has.true)
-
-pub overflow_add-body : goal.overflow_add-body
-overflow_add-body c =
-    let a = c.args in
-    omega (arith, has_yes (a.at + (a.k + 1)) (length a.dst.now) c.has.ensures c.if-has.true)
-
-pub put_le-requires : goal.put_le-requires
-put_le-requires c =
-    let a = c.args in
-    simp length-set (omega (arith, has_yes (a.at + (a.k + 1)) (length a.dst.now) c.has.ensures c.if-has.true))
-
-pub overflow_add-result : goal.overflow_add-result
-overflow_add-result c =
-    let p = c in
-    let a = p.args in
-    omega (arith, has_yes (a.at + (a.k + 1)) (length a.dst.now) p.has.ensures p.if-has.true)
-
-pub shape_of-dst-then-has : goal.shape_of-dst-then-has
-shape_of-dst-then-has c = simp length-set at c.put_le.auto.dst
 
 pub returns-then-has : goal.returns-then-has
 returns-then-has c =

@@ -4,20 +4,7 @@ use Rattle.wire.specs.Le.{le_bytes}
 use native.Mathlib.Omega.{arith}
 use lib.ListN.{length}
 use Prim.Native.Nat.{◌+◌, ◌≤◌}
-use borrow.Author.Rules.{rules}
 use Rattle.wire.proofs.put_uint_le.Goals as goal
-
-pub put_le-requires : goal.put_le-requires
-put_le-requires c =
-    let a = c.args in
-    has_yes (a.at + a.k) (length a.dst.now) c.has.ensures c.if-has.true
-
-pub overflow_add-result : goal.overflow_add-result
-overflow_add-result c =
-    let p = c in
-    let a = p.args in
-    let h : a.at + a.k ≤ length a.dst.now = has_yes (a.at + a.k) (length a.dst.now) p.has.ensures p.if-has.true in
-    search rules
 
 pub returns-then-has : goal.returns-then-has
 returns-then-has c =

@@ -30,13 +30,6 @@ returns-then-exceeds-2 c =
     let over = ltb-true _ _ (sym c.exceeds-2.ensures ∙ c.if-exceeds-2.true) in
     rw (chunk_no_room largest a.x a.st a.len a.number a.src.now a.dst.now h same over, c.stop-then-exceeds-2.ensures)
 
-pub take_chunk-requires : goal.take_chunk-requires
-take_chunk-requires c =
-    let there = c in
-    let a = there.args in
-    let t = ltb-false (length a.src.now) (4 + a.len) (sym there.exceeds.ensures ∙ there.if-exceeds.false) in
-    (omega (arith, t), ltb-false _ _ (sym c.exceeds-2.ensures ∙ c.if-exceeds-2.false))
-
 pub returns : goal.returns
 returns c =
     let p = c in

@@ -1,8 +1,0 @@
-use Rattle.std.proofs.Common.{◌≡◌, ◌-◌, ◌≤◌, length}
-use Rattle.lines.proofs.serve.Given as goal
-
-abbrev pub invariant-loop-k : goal.invariant-loop-k
-invariant-loop-k l = (l.k ≤ 60000) × (length l.dst ≡ length l.initial.dst)
-
-abbrev pub decreases-loop-k : goal.decreases-loop-k
-decreases-loop-k l = 60000 - l.k

@@ -1,5 +1,0 @@
-use Rattle.std.proofs.Common.{arith, length-set}
-use Rattle.packs.proofs.fill.Goals as goal
-
-pub loop-i-preserved : goal.loop-i-preserved
-loop-i-preserved c = rw length-set (omega arith, c.loop-i.invariant.1)

@@ -1,9 +1,0 @@
-use lib.ListN.{length}
-use Prim.Native.Nat.{◌≤◌, ◌-◌}
-use Rattle.records.proofs.differences.Given as goal
-
-abbrev pub invariant-loop-entry : goal.invariant-loop-entry
-invariant-loop-entry l = l.n ≤ l.entry
-
-abbrev pub decreases-loop-entry : goal.decreases-loop-entry
-decreases-loop-entry l = length l.s - l.entry

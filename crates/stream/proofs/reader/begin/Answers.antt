@@ -1,6 +1,0 @@
-use Rattle.chunk.specs.Chunks.{next}
-use Rattle.stream.proofs.reader.begin.Goals as goal
-
-pub returns : goal.returns
-unfolding next
-returns c = rw c.wrapping_add_u8.ensures.value
