@@ -8,14 +8,12 @@ ghost use Rattle.std.specs.Prelude.{◌<◌};
 
 use chunk::Decoded;
 use duration::Time;
-use files::{byte_at, half_at, long_at, word_at};
+use files::{byte_at, half_at, long_at, read_front, tail, word_at};
 use frame::PacketCodec;
 use refusal::{Refusal, number_of};
 use std::alloc::{AllocError, Global};
 use std::fs::File;
 use std::io;
-use std::io::Read;
-use std::rt::Files;
 use value::{Date, Value};
 use wire::{Parsed, Text, part};
 
@@ -38,18 +36,6 @@ const OPERATIONS: [(u16, &str); 13] = [
     (0x14, "packets written"),
     (0x15, "packet reads"),
 ];
-
-// The front of a file, as many bytes as are asked for.
-fn read_front(rt: &(impl Files + AllocGlobal), name: &str, most: u64) -> io::Result<Vec<u8>> {
-    let mut bytes = Vec::new(rt.alloc());
-    File::open(rt, name)?.take(most).read_to_end(&mut bytes)?;
-    Ok(bytes)
-}
-
-// The bytes from a place on; none where it is past the end.
-fn tail(bytes: &[u8], at: usize) -> &[u8] {
-    bytes.get(at..).unwrap_or_default()
-}
 
 // The bytes from a place up to another.
 fn between(bytes: &[u8], from: usize, to: usize) -> &[u8] {
@@ -117,18 +103,6 @@ fn kind_of(v: Value) -> u8 {
     }
 }
 
-fn same_date(a: Date, b: Date) -> bool {
-    let day = |d: Date| (d.year, d.month, d.day);
-    let clock = |d: Date| (d.hour, d.minutes, d.seconds, d.micros);
-    day(a) == day(b) && clock(a) == clock(b)
-}
-
-fn same_time(a: Time, b: Time) -> bool {
-    let day = |t: Time| (t.neg, t.days);
-    let clock = |t: Time| (t.hours, t.minutes, t.seconds, t.micros);
-    day(a) == day(b) && clock(a) == clock(b)
-}
-
 // Integers and floats are compared by the bytes that they are written in: all of the bits, those of a NaN too.
 fn same_bits(v: Value, p: &[u8]) -> bool {
     let mut out = [0u8; 8];
@@ -141,8 +115,8 @@ fn same_value(v: Value, p: &[u8]) -> bool {
         Value::Bytes { at, len } => {
             at == word_at(p, 0) as usize && len == word_at(p, 4) as usize
         }
-        Value::Date(d) => same_date(d, date_of(p)),
-        Value::Time(t) => byte_at(p, 0) < 2 && same_time(t, time_of(p)),
+        Value::Date(d) => d == date_of(p),
+        Value::Time(t) => byte_at(p, 0) < 2 && t == time_of(p),
         _ => same_bits(v, p),
     }
 }
@@ -396,7 +370,7 @@ impl Connection {
 }
 
 fn main(rt: HostRuntime) -> io::Result<()> {
-    let list = read_front(&rt, "answers", LIST)?;
+    let list = read_front(File::open(&rt, "answers")?, LIST, rt.alloc())?;
     let n = word_at(&list, 0) as usize;
     println!(rt; "lines {n}")?;
     for (operation, what) in OPERATIONS {

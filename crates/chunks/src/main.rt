@@ -5,12 +5,11 @@
 #![tactic(auto)]
 
 use chunk::{Decoded, Encoded, PlainPacketCodec};
-use files::{byte_at, long_at, word_at};
+use files::{byte_at, long_at, part_at, read_front, row_at, tail, word_at};
 use refusal::{Refusal, number_of};
 use std::alloc::{AllocError, Global};
 use std::fs::File;
 use std::io;
-use std::io::Read;
 use std::rt::Files;
 use wire::part;
 
@@ -38,28 +37,6 @@ const CAPTURES: [&str; 7] = [
     "session-track",
     "text-rows",
 ];
-
-// The front of a file, as many bytes as are asked for.
-fn read_front(rt: &(impl Files + AllocGlobal), name: &str, most: u64) -> io::Result<Vec<u8>> {
-    let mut bytes = Vec::new(rt.alloc());
-    File::open(rt, name)?.take(most).read_to_end(&mut bytes)?;
-    Ok(bytes)
-}
-
-// The bytes from a place on; none where it is past the end.
-fn tail(bytes: &[u8], at: usize) -> &[u8] {
-    bytes.get(at..).unwrap_or_default()
-}
-
-// A file from the k-th row on of the table at a place: its rows have one size.
-fn row(file: &[u8], table: usize, size: usize, k: usize) -> &[u8] {
-    tail(file, k.saturating_mul(size).saturating_add(table))
-}
-
-// The part of a file whose place and length stand at two places of a row.
-fn part_at<'a>(file: &'a [u8], row: &[u8], at: usize, len: usize) -> &'a [u8] {
-    part(file, word_at(row, at) as usize, word_at(row, len) as usize)
-}
 
 // ---- the list of calls
 
@@ -162,7 +139,7 @@ impl<'a> Case<'a> {
 }
 
 fn run_cases(rt: &(impl Files + AllocGlobal + Print)) -> io::Result<()> {
-    let list = read_front(rt, "vectors", LIST)?;
+    let list = read_front(File::open(rt, "vectors")?, LIST, rt.alloc())?;
     let n = word_at(&list, 0) as usize;
     println!(rt; "cases {n}")?;
     let mut space = [0u8; 4096];
@@ -170,7 +147,7 @@ fn run_cases(rt: &(impl Files + AllocGlobal + Print)) -> io::Result<()> {
     for k in 0..n.min(CASES) {
         let case = Case {
             list: &list,
-            row: row(&list, 4, 104, k),
+            row: row_at(&list, 4, 104, k),
         };
         if !case.is_right(&mut space) {
             println!(rt; "differs: case {k}")?;
@@ -279,7 +256,7 @@ impl Connection {
     // How many of a capture's first n exchanges go as captured, up to one that does not.
     fn replays(&mut self, file: &[u8], n: usize) -> usize {
         let differs = (0..n).position(|k| {
-            let row = row(file, 4, 16, k);
+            let row = row_at(file, 4, 16, k);
             let command = part_at(file, row, 0, 4);
             let answer = part_at(file, row, 8, 12);
             !self.exchanges(command, answer, usize::from(k == 0))
@@ -289,7 +266,7 @@ impl Connection {
 }
 
 fn run_capture(rt: &(impl Files + AllocGlobal + Print), name: &str) -> io::Result<()> {
-    let file = read_front(rt, name, CAPTURE)?;
+    let file = read_front(File::open(rt, name)?, CAPTURE, rt.alloc())?;
     let n = word_at(&file, 0) as usize;
     let within = n.min(EXCHANGES);
     let mut connection = Connection::open(rt.alloc())?;

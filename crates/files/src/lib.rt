@@ -1,11 +1,14 @@
-// What a program reads of a file or another stream: as many bytes as its buffer holds, and the numbers in them, low byte first.
+// What the programs share that replay lists: reading one, as many bytes as a buffer holds or as are asked for, and the numbers and parts in
+// it.
 #![tactic(auto)]
 
-ghost use Rattle.std.specs.Prelude.{◌≡◌, ◌≤◌, ◌*◌, ◌^◌, ◌<◌, length, take, OnOk};
+ghost use Rattle.std.specs.Prelude.{◌≡◌, ◌≤◌, ◌+◌, ◌*◌, ◌^◌, ◌<◌, length, take, drop, OnOk, IfOk, IfSome, option_map};
 ghost use Rattle.std.specs.Io.KnownBytes.{Consumes, IsAtEnd};
 ghost use Rattle.wire.specs.Le.{num_at};
+ghost use Rattle.wire.specs.LenEnc.{part_of};
 ghost use Rattle.files.specs.Number.{or_zero};
 
+use std::alloc::Global;
 use std::io;
 use std::io::Read;
 use wire::inner::{has, le};
@@ -59,4 +62,51 @@ pub fn long_at(list: &[u8], at: usize) -> u64
     ensures { result ≡ or_zero (num_at list.now at 8) }
 {
     number_at(list, at, 8)
+}
+
+// ---- parts of a list
+
+// What stands from a place on; nothing past the end.
+pub fn tail(list: &[u8], at: usize) -> &[u8]
+    ensures { result.now ≡ drop at list.now }
+{
+    list.get(at..).unwrap_or_default()
+}
+
+// The k-th of the rows of one size that begin at a place, and all behind it.
+pub fn row_at(list: &[u8], table: usize, size: usize, k: usize) -> &[u8]
+    ensures { result.now ≡ drop (k * size + table) list.now }
+{
+    tail(list, k.saturating_mul(size).saturating_add(table))
+}
+
+// The part whose place and length stand at two places of a row.
+pub fn part_at<'a>(list: &'a [u8], row: &[u8], at: usize, len: usize) -> &'a [u8]
+    ensures { result.now ≡ part_of list.now (or_zero (num_at row.now at 4)) (or_zero (num_at row.now len 4)) }
+{
+    wire::part(list, word_at(row, at) as usize, word_at(row, len) as usize)
+}
+
+// The front of a stream, as many bytes as are asked for.
+pub fn read_front<R: Read + Drop>(reader: R, most: u64, alloc: Global) -> io::Result<Vec<u8>>
+    ensures { IfOk result (λ bytes. IfSome (option_map (take most) (R.remaining reader)) (λ front. bytes.items ≡ front)) }
+{
+    let mut bytes = Vec::new(alloc);
+    reader.take(most).read_to_end(&mut bytes)?;
+    Ok(bytes)
+}
+
+#[cfg(test)]
+mod tests {
+    use super::read_front;
+    use std::io;
+
+    #[test]
+    fn front_is_read(rt: HostRuntime) -> io::Result<()> {
+        let front = read_front(b"0123456789".as_slice(), 4, rt.alloc())?;
+        assert_eq!(rt; front.as_slice(), b"0123".as_slice());
+        let all = read_front(b"0123456789".as_slice(), 40, rt.alloc())?;
+        assert_eq!(rt; all.as_slice(), b"0123456789".as_slice());
+        Ok(())
+    }
 }

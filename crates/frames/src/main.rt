@@ -3,12 +3,11 @@
 // out). Then a million frames with nothing in them, read in one call.
 #![tactic(auto)]
 
-use files::{byte_at, long_at, word_at};
+use files::{byte_at, long_at, part_at, read_front, row_at, tail, word_at};
 use frame::PacketCodec;
 use refusal::{Refusal, number_of};
 use std::fs::File;
 use std::io;
-use std::io::Read;
 use std::rt::Files;
 use wire::part;
 
@@ -43,28 +42,6 @@ const ANSWERS: [&str; 8] = [
 // An answer's byte in the file where it is neither need more, 0, nor a refusal, its number.
 const DONE: u8 = 0xFF;
 
-// The front of a file, as many bytes as are asked for.
-fn read_front(rt: &(impl Files + AllocGlobal), name: &str, most: u64) -> io::Result<Vec<u8>> {
-    let mut bytes = Vec::new(rt.alloc());
-    File::open(rt, name)?.take(most).read_to_end(&mut bytes)?;
-    Ok(bytes)
-}
-
-// The bytes from a place on; none where it is past the end.
-fn tail(bytes: &[u8], at: usize) -> &[u8] {
-    bytes.get(at..).unwrap_or_default()
-}
-
-// A file from the k-th row on of the table at a place: its rows have one size.
-fn row(file: &[u8], table: usize, size: usize, k: usize) -> &[u8] {
-    tail(file, k.saturating_mul(size).saturating_add(table))
-}
-
-// The part of a file whose place and length stand at two places of a row.
-fn part_at<'a>(file: &'a [u8], row: &[u8], at: usize, len: usize) -> &'a [u8] {
-    part(file, word_at(row, at) as usize, word_at(row, len) as usize)
-}
-
 fn open_codec(limit: usize) -> PacketCodec {
     codec::opening(limit).unwrap_or_else(|shut| shut.state)
 }
@@ -89,7 +66,7 @@ fn listed(answer: Result<Option<usize>, Refusal>) -> (u8, u64) {
 
 impl<'a> Operation<'a> {
     fn of(list: &'a [u8], k: usize) -> Self {
-        let row = row(list, 8, 72, k);
+        let row = row_at(list, 8, 72, k);
         Operation { list, row }
     }
 
@@ -200,7 +177,7 @@ fn say_counts(rt: &impl Print, list: &[u8], n: usize, at: usize, names: &[&str])
 }
 
 fn run_operations(rt: &(impl Files + AllocGlobal + Print)) -> io::Result<()> {
-    let list = read_front(rt, "vectors", LIST)?;
+    let list = read_front(File::open(rt, "vectors")?, LIST, rt.alloc())?;
     let n = word_at(&list, 0) as usize;
     println!(rt; "operations {n}")?;
     if MOST < n {

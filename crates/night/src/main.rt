@@ -13,7 +13,7 @@
 ghost use Rattle.std.specs.Prelude.{◌≤◌};
 
 use duration::Time;
-use files::{byte_at, half_at, word_at};
+use files::{byte_at, half_at, read_front, tail, word_at};
 use frame::PacketCodec;
 use refusal::{Refusal, number_of};
 use row::Side;
@@ -21,7 +21,6 @@ use std::alloc::{AllocError, Global};
 use std::fs::File;
 use std::io;
 use std::io::Read;
-use std::rt::Files;
 use value::Value;
 use wire::part;
 
@@ -53,18 +52,6 @@ const TRAINS: usize = 9216;
 const HEAD: usize = 20;
 
 const MINUTE_BEFORE: i64 = -60_000_000;
-
-// The front of a file, as many bytes as are asked for.
-fn read_front(rt: &(impl Files + AllocGlobal), name: &str, most: u64) -> io::Result<Vec<u8>> {
-    let mut bytes = Vec::new(rt.alloc());
-    File::open(rt, name)?.take(most).read_to_end(&mut bytes)?;
-    Ok(bytes)
-}
-
-// The bytes from a place on; none where it is past the end.
-fn tail(bytes: &[u8], at: usize) -> &[u8] {
-    bytes.get(at..).unwrap_or_default()
-}
 
 // ---- the connection
 
@@ -489,8 +476,12 @@ fn run_night(rt: &HostRuntime, limit: usize) -> io::Result<()>
     requires { limit ≤ 66_560 }
 {
     let input = File::open(rt, "stored-eof-binary-rows.full.s2c.bin")?;
-    let client = read_front(rt, "stored-eof-binary-rows.full.c2s.bin", FRONT)?;
-    let index = read_front(rt, "index", FRONT)?;
+    let client = read_front(
+        File::open(rt, "stored-eof-binary-rows.full.c2s.bin")?,
+        FRONT,
+        rt.alloc(),
+    )?;
+    let index = read_front(File::open(rt, "index")?, FRONT, rt.alloc())?;
     let mut night = Night {
         line: Line::open(rt.alloc(), input, limit)?,
         table: Table::new(rt.alloc()),

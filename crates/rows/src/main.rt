@@ -3,13 +3,11 @@
 #![tactic(auto)]
 
 use duration::Time;
-use files::{half_at, long_at, word_at};
+use files::{half_at, long_at, read_front, tail, word_at};
 use refusal::Refusal;
 use row::{Columns, Side};
 use std::fs::File;
 use std::io;
-use std::io::Read;
-use std::rt::Files;
 use value::{Date, Value};
 use wire::part;
 
@@ -36,18 +34,6 @@ const TAGS: [&str; 9] = [
     "dates",
     "times",
 ];
-
-// The front of a file, as many bytes as are asked for.
-fn read_front(rt: &(impl Files + AllocGlobal), name: &str, most: u64) -> io::Result<Vec<u8>> {
-    let mut bytes = Vec::new(rt.alloc());
-    File::open(rt, name)?.take(most).read_to_end(&mut bytes)?;
-    Ok(bytes)
-}
-
-// The bytes from a place on; none where it is past the end.
-fn tail(bytes: &[u8], at: usize) -> &[u8] {
-    bytes.get(at..).unwrap_or_default()
-}
 
 // A file from the k-th entry on of the table at a place: its entries have one size.
 fn entry(file: &[u8], table: usize, size: usize, k: usize) -> &[u8] {
@@ -282,7 +268,7 @@ impl<'a> Row<'a> {
 }
 
 fn main(rt: HostRuntime) -> io::Result<()> {
-    let file = read_front(&rt, "rows", LIST)?;
+    let file = read_front(File::open(&rt, "rows")?, LIST, rt.alloc())?;
     let mut counts = Counts::default();
     for k in 0..half(&file, 0) {
         Row::of(&file, k).check(&rt, &mut counts)?;

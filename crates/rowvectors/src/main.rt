@@ -2,13 +2,11 @@
 // gives (host/data/rowvectors.py, which also says how the file is laid out). After a refusal the list must be as it was.
 #![tactic(auto)]
 
-use files::{half_at, long_at};
+use files::{half_at, long_at, read_front, tail};
 use refusal::{Refusal, number_of};
 use row::{Columns, Side};
 use std::fs::File;
 use std::io;
-use std::io::Read;
-use std::rt::Files;
 use wire::part;
 
 // How many bytes of the list are read: what a longer file has behind them is not.
@@ -25,18 +23,6 @@ const PLACES: usize = 4100;
 
 // The kinds of cases, each at its number.
 const KINDS: [&str; 4] = ["rows", "parameter lists", "NULL bits", "NULL counts"];
-
-// The front of a file, as many bytes as are asked for.
-fn read_front(rt: &(impl Files + AllocGlobal), name: &str, most: u64) -> io::Result<Vec<u8>> {
-    let mut bytes = Vec::new(rt.alloc());
-    File::open(rt, name)?.take(most).read_to_end(&mut bytes)?;
-    Ok(bytes)
-}
-
-// The bytes from a place on; none where it is past the end.
-fn tail(bytes: &[u8], at: usize) -> &[u8] {
-    bytes.get(at..).unwrap_or_default()
-}
 
 // A case: its numbers stand from its place on, and the bytes that it points at in the list.
 #[derive(Clone, Copy)]
@@ -152,7 +138,7 @@ fn differences(rt: &impl Print, file: &[u8], n: usize) -> io::Result<usize> {
 }
 
 fn main(rt: HostRuntime) -> io::Result<()> {
-    let file = read_front(&rt, "vectors", LIST)?;
+    let file = read_front(File::open(&rt, "vectors")?, LIST, rt.alloc())?;
     let n = usize::from(half_at(&file, 0));
     let differences = differences(&rt, &file, n)?;
     for (number, kind) in KINDS.iter().enumerate() {

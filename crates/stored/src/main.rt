@@ -6,13 +6,12 @@
 // A capture with packed frames comes last: the first of them must be refused with 5, after the packets before it.
 #![tactic(auto)]
 
-use files::word_at;
+use files::{part_at, read_front, row_at, tail, word_at};
 use frame::PacketCodec;
 use refusal::{Refusal, number_of};
 use std::alloc::{AllocError, Global};
 use std::fs::File;
 use std::io;
-use std::io::Read;
 use std::rt::Files;
 use wire::part;
 
@@ -43,28 +42,6 @@ const CAPTURES: [&str; 9] = [
     "eof-session-track",
     "packed-rows",
 ];
-
-// The front of a file, as many bytes as are asked for.
-fn read_front(rt: &(impl Files + AllocGlobal), name: &str, most: u64) -> io::Result<Vec<u8>> {
-    let mut bytes = Vec::new(rt.alloc());
-    File::open(rt, name)?.take(most).read_to_end(&mut bytes)?;
-    Ok(bytes)
-}
-
-// The bytes from a place on; none where it is past the end.
-fn tail(bytes: &[u8], at: usize) -> &[u8] {
-    bytes.get(at..).unwrap_or_default()
-}
-
-// A file from the k-th row on of the table at a place: its rows have one size.
-fn row(file: &[u8], table: usize, size: usize, k: usize) -> &[u8] {
-    tail(file, k.saturating_mul(size).saturating_add(table))
-}
-
-// The part of a file whose place and length stand at two places of a row.
-fn part_at<'a>(file: &'a [u8], row: &[u8], at: usize, len: usize) -> &'a [u8] {
-    part(file, word_at(row, at) as usize, word_at(row, len) as usize)
-}
 
 // The bytes as digits to the base 257.
 fn checksum(bytes: &[u8]) -> u32 {
@@ -160,7 +137,7 @@ impl Connection {
 
     // Holds a packet of so many bytes to the one that is listed next.
     fn takes(&mut self, file: &[u8], n: usize) -> Result<(), Stop> {
-        let listed = row(file, word_at(file, 4) as usize, 8, self.packets);
+        let listed = row_at(file, word_at(file, 4) as usize, 8, self.packets);
         let packet = part(&self.packet, 0, n);
         self.packets = self.packets.saturating_add(1);
         if packet.len() == word_at(listed, 0) as usize && checksum(packet) == word_at(listed, 4) {
@@ -209,7 +186,7 @@ impl Connection {
     fn replays(&mut self, file: &[u8], pieces: Pieces) -> Result<(), Stop> {
         let n = word_at(file, 0) as usize;
         for k in 0..n.min(TURNS) {
-            self.talks(file, row(file, 8, 24, k), pieces)?;
+            self.talks(file, row_at(file, 8, 24, k), pieces)?;
         }
         Ok(())
     }
@@ -239,7 +216,7 @@ fn run_pieces(
 }
 
 fn run_capture(rt: &(impl Files + AllocGlobal + Print), name: &str) -> io::Result<()> {
-    let file = read_front(rt, name, CAPTURE)?;
+    let file = read_front(File::open(rt, name)?, CAPTURE, rt.alloc())?;
     run_pieces(rt, name, &file, Pieces::Large)?;
     run_pieces(rt, name, &file, Pieces::Small)
 }

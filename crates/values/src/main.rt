@@ -3,12 +3,10 @@
 #![tactic(auto)]
 
 use duration::Time;
-use files::{byte_at, half_at, long_at, word_at};
+use files::{byte_at, half_at, long_at, read_front, word_at};
 use refusal::{Refusal, number_of};
 use std::fs::File;
 use std::io;
-use std::io::Read;
-use std::rt::Files;
 use value::{Date, Value};
 use wire::{Parsed, part};
 
@@ -25,13 +23,6 @@ const MARK: u8 = 0xA5;
 const READ_SIGN: usize = 13;
 
 const BACK_SIGN: usize = 19;
-
-// The front of a file, as many bytes as are asked for.
-fn read_front(rt: &(impl Files + AllocGlobal), name: &str, most: u64) -> io::Result<Vec<u8>> {
-    let mut bytes = Vec::new(rt.alloc());
-    File::open(rt, name)?.take(most).read_to_end(&mut bytes)?;
-    Ok(bytes)
-}
 
 fn place_of(k: usize) -> usize {
     k.saturating_mul(40).saturating_add(4)
@@ -268,7 +259,7 @@ fn count_marked(list: &[u8], n: usize, at: usize) -> usize {
 }
 
 fn main(rt: HostRuntime) -> io::Result<()> {
-    let list = read_front(&rt, "vectors", LIST)?;
+    let list = read_front(File::open(&rt, "vectors")?, LIST, rt.alloc())?;
     let n = usize::from(half_at(&list, 0));
     let differences = differences(&rt, &list, n)?;
     println!(rt; "values {n}")?;
