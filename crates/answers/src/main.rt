@@ -369,25 +369,27 @@ impl Connection {
     }
 }
 
+// A line that can't be written is passed over: what is counted does not depend on it.
 fn main(rt: HostRuntime) -> io::Result<()> {
     let list = read_front(File::open(&rt, "answers")?, LIST, rt.alloc())?;
     let n = word_at(&list, 0) as usize;
-    println!(rt; "lines {n}")?;
+    let _ = println!(rt; "lines {n}");
     for (operation, what) in OPERATIONS {
         let lines = (0..n)
             .filter(|&k| Line::of(&list, k).operation() == operation)
             .count();
-        println!(rt; "  {what} {lines}")?;
+        let _ = println!(rt; "  {what} {lines}");
     }
     let mut connection = Connection::none(rt.alloc())?;
     let mut differences = 0usize;
     for k in 0..n {
         if !connection.replays(Line::of(&list, k)) {
             if differences == 0 {
-                println!(rt; "first difference: line {}", k + 1)?;
+                let _ = println!(rt; "first difference: line {}", k + 1);
             }
             differences = differences.saturating_add(1);
         }
     }
-    println!(rt; "differences {differences}")
+    let _ = println!(rt; "differences {differences}");
+    Ok(())
 }

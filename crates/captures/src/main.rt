@@ -5,7 +5,6 @@
 
 use files::read_full;
 use refusal::number_of;
-use std::io;
 use std::io::Read;
 
 const LIMIT: usize = 61_440;
@@ -13,20 +12,21 @@ const LIMIT: usize = 61_440;
 // How many bytes of a capture are reported.
 const MOST: usize = 65_536;
 
-fn report(rt: &(impl Eprint + Print), capture: &[u8]) -> io::Result<()> {
+// A line that can't be written is passed over, and the report goes on.
+fn report(rt: &(impl Eprint + Print), capture: &[u8]) {
     // 13 times the stretches are at most twice the bytes and 22 (salvage's law `few`), so here there are 10,084 at the most.
     let mut list = [0; 40_960];
     let n = match salvage::salvage(LIMIT, capture, &mut list) {
         Ok(n) => n,
         Err(why) => {
-            return eprintln!(rt; "captures: no report, refusal {}", number_of(why));
+            let _ = eprintln!(rt; "captures: no report, refusal {}", number_of(why));
+            return;
         }
     };
     for [good, offset, bytes, last] in list.as_chunks::<4>().0.iter().take(n) {
         let kind = if *good == 1 { "good" } else { "lost" };
-        println!(rt; "{kind}\t{offset}\t{bytes}\t{last}")?;
+        let _ = println!(rt; "{kind}\t{offset}\t{bytes}\t{last}");
     }
-    Ok(())
 }
 
 // Whether there is a byte behind those that were read.
@@ -35,13 +35,13 @@ fn goes_on(input: &mut impl Read) -> bool {
     more == 1
 }
 
-fn main(rt: HostRuntime) -> io::Result<()> {
+fn main(rt: HostRuntime) {
     let mut input = rt.reader();
     let mut buffer = [0; MOST];
     // A read that fails ends the capture.
     let (size, _) = read_full(&mut input, &mut buffer);
     if size == MOST && goes_on(&mut input) {
-        eprintln!(rt; "captures: only the first 65,536 bytes are reported")?;
+        let _ = eprintln!(rt; "captures: only the first 65,536 bytes are reported");
     }
-    report(&rt, &buffer[..size])
+    report(&rt, &buffer[..size]);
 }

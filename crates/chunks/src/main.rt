@@ -138,10 +138,11 @@ impl<'a> Case<'a> {
     }
 }
 
+// A line that can't be written is passed over: what is counted does not depend on it.
 fn run_cases(rt: &(impl Files + AllocGlobal + Print)) -> io::Result<()> {
     let list = read_front(File::open(rt, "vectors")?, LIST, rt.alloc())?;
     let n = word_at(&list, 0) as usize;
-    println!(rt; "cases {n}")?;
+    let _ = println!(rt; "cases {n}");
     let mut space = [0u8; 4096];
     let mut differences = 0usize;
     for k in 0..n.min(CASES) {
@@ -150,11 +151,12 @@ fn run_cases(rt: &(impl Files + AllocGlobal + Print)) -> io::Result<()> {
             row: row_at(&list, 4, 104, k),
         };
         if !case.is_right(&mut space) {
-            println!(rt; "differs: case {k}")?;
+            let _ = println!(rt; "differs: case {k}");
             differences = differences.saturating_add(1);
         }
     }
-    println!(rt; "  differences {differences}")
+    let _ = println!(rt; "  differences {differences}");
+    Ok(())
 }
 
 // ---- two ends
@@ -175,21 +177,21 @@ fn pass_on(codec: PlainPacketCodec, packet: &[u8]) -> Option<PlainPacketCodec> {
 }
 
 // Packets of 0 to 9 bytes; how many came through.
-fn pass_all(rt: &impl Print, first: PlainPacketCodec) -> io::Result<usize> {
+fn pass_all(rt: &impl Print, first: PlainPacketCodec) -> usize {
     let mut codec = first;
     for k in 0..PACKETS {
         match pass_on(codec, &b"0123456789"[..k % 10]) {
             Some(next) => codec = next,
-            None => return Ok(k),
+            None => return k,
         }
     }
-    println!(rt; "the number then {}", codec.number)?;
-    Ok(PACKETS)
+    let _ = println!(rt; "the number then {}", codec.number);
+    PACKETS
 }
 
-fn run_ends(rt: &impl Print) -> io::Result<()> {
-    let passed = pass_all(rt, open_codec(9))?;
-    println!(rt; "packets over the wrap {passed}")
+fn run_ends(rt: &impl Print) {
+    let passed = pass_all(rt, open_codec(9));
+    let _ = println!(rt; "packets over the wrap {passed}");
 }
 
 // ---- captured connections
@@ -272,19 +274,20 @@ fn run_capture(rt: &(impl Files + AllocGlobal + Print), name: &str) -> io::Resul
     let mut connection = Connection::open(rt.alloc())?;
     let done = connection.replays(&file, within);
     if done < within {
-        println!(rt; "differs: exchange {done}")?;
+        let _ = println!(rt; "differs: exchange {done}");
     }
-    println!(rt; "{name}: exchanges {done}")?;
-    println!(rt; "  packets of the server {}", connection.packets)?;
-    if done < n {
-        println!(rt; "  not as captured")?;
+    let _ = println!(rt; "{name}: exchanges {done}");
+    let _ = println!(rt; "  packets of the server {}", connection.packets);
+    // At the limit the replay stops, whether more is to come or not.
+    if done < n || done == EXCHANGES {
+        let _ = println!(rt; "  not as captured");
     }
     Ok(())
 }
 
 fn main(rt: HostRuntime) -> io::Result<()> {
     run_cases(&rt)?;
-    run_ends(&rt)?;
+    run_ends(&rt);
     for name in CAPTURES {
         run_capture(&rt, name)?;
     }

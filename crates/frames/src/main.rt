@@ -165,43 +165,45 @@ impl<'a> Operation<'a> {
 
 // ---- the list
 
-// How many of a list's operations have each number at a place, by its name.
-fn say_counts(rt: &impl Print, list: &[u8], n: usize, at: usize, names: &[&str]) -> io::Result<()> {
+// How many of a list's operations have each number at a place, by its name. A line that can't be written is passed over: what is counted
+// does not depend on it.
+fn say_counts(rt: &impl Print, list: &[u8], n: usize, at: usize, names: &[&str]) {
     for (number, name) in names.iter().enumerate() {
         let count = (0..n)
             .filter(|&k| usize::from(Operation::of(list, k).byte(at)) == number)
             .count();
-        println!(rt; "{name} {count}")?;
+        let _ = println!(rt; "{name} {count}");
     }
-    Ok(())
 }
 
 fn run_operations(rt: &(impl Files + AllocGlobal + Print)) -> io::Result<()> {
     let list = read_front(File::open(rt, "vectors")?, LIST, rt.alloc())?;
     let n = word_at(&list, 0) as usize;
-    println!(rt; "operations {n}")?;
+    let _ = println!(rt; "operations {n}");
     if MOST < n {
-        return println!(rt; "too many");
+        let _ = println!(rt; "too many");
+        return Ok(());
     }
-    say_counts(rt, &list, n, 0, &KINDS)?;
-    say_counts(rt, &list, n, 1, &ANSWERS)?;
+    say_counts(rt, &list, n, 0, &KINDS);
+    say_counts(rt, &list, n, 1, &ANSWERS);
     let mut staging = [0u8; 1024];
     let mut space = [0u8; 1024];
     let mut codec = open_codec(0);
     let mut differences = 0usize;
     for k in 0..n {
         if !Operation::of(&list, k).is_right(&mut codec, &mut staging, &mut space) {
-            println!(rt; "differs: operation {k}")?;
+            let _ = println!(rt; "differs: operation {k}");
             differences = differences.saturating_add(1);
         }
     }
-    println!(rt; "{differences} differ")
+    let _ = println!(rt; "{differences} differ");
+    Ok(())
 }
 
 // ---- a million frames with nothing in them
 
 fn run_empty_frames(rt: &(impl AllocGlobal + Print)) -> io::Result<()> {
-    let mut bytes = Vec::new(rt.alloc());
+    let mut bytes = Vec::with_capacity(rt.alloc(), 7_000_000)?;
     // A header of seven bytes has two lengths, and the frame's number between them.
     for k in 0..1_000_000u32 {
         bytes.extend_from_slice(&[0, 0, 0, (k % 256) as u8, 0, 0, 0])?;
@@ -210,12 +212,13 @@ fn run_empty_frames(rt: &(impl AllocGlobal + Print)) -> io::Result<()> {
     let mut space = [0u8; 4];
     let codec = codec::frames_on(open_codec(9));
     let got = codec::decode(codec, &bytes, &mut staging, &mut space);
-    match got.answer {
-        Ok(None) => println!(rt; "empty frames in one call, bytes used {}", got.used)?,
-        Ok(Some(n)) => println!(rt; "empty frames: a packet of {n}")?,
-        Err(why) => println!(rt; "empty frames: refused {}", number_of(why))?,
-    }
-    println!(rt; "the frame number then {}", got.next.frame)
+    let _ = match got.answer {
+        Ok(None) => println!(rt; "empty frames in one call, bytes used {}", got.used),
+        Ok(Some(n)) => println!(rt; "empty frames: a packet of {n}"),
+        Err(why) => println!(rt; "empty frames: refused {}", number_of(why)),
+    };
+    let _ = println!(rt; "the frame number then {}", got.next.frame);
+    Ok(())
 }
 
 fn main(rt: HostRuntime) -> io::Result<()> {

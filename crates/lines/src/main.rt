@@ -4,6 +4,8 @@
 // is this one.
 #![tactic(auto)]
 
+ghost use Rattle.std.specs.Prelude.{◌<◌};
+
 use chunk::PlainPacketCodec;
 use refusal::Refusal;
 use std::alloc::{AllocError, Global};
@@ -22,7 +24,9 @@ const CHUNK_ROOM: usize = 64;
 
 const MODULUS: usize = 2_147_483_647;
 
-fn mixed(x: usize) -> usize {
+fn mixed(x: usize) -> usize
+    ensures { result < 2147483647 }
+{
     let y = x % MODULUS;
     (y % 65_536 * 32_768 + y / 65_536) % MODULUS * 48_271 % MODULUS
 }
@@ -35,7 +39,9 @@ struct Draws {
 }
 
 impl Draws {
-    fn draw(self, what: usize, n: usize) -> usize {
+    fn draw(self, what: usize, n: usize) -> usize
+        ensures { result < 2147483647 }
+    {
         let x = self.case % MODULUS * 48_271
             + what % MODULUS * 104_729
             + n % MODULUS * 69_621
@@ -126,13 +132,13 @@ impl<'a> Line<'a> {
     // All packets, each as one chunk. The writer's limit is its own.
     fn write(&self, alloc: Global) -> Result<Written, AllocError> {
         let mut codec = idle(1000, self.number());
-        let mut chunks = Vec::new(alloc);
+        let mut chunks = Vec::with_capacity(alloc, self.packets)?;
         for j in 0..self.packets {
             let mut room = [0u8; CHUNK_ROOM];
             let sent = chunk::packet_to_chunks(&mut room, codec, self.packet(j));
             let len = sent.put.unwrap_or(0);
             codec = sent.next;
-            chunks.push(Vec::from_slice(alloc, part(&room, 0, len))?)?;
+            chunks.push(Chunk { room, len })?;
         }
         Ok(Written { codec, chunks })
     }
@@ -162,17 +168,30 @@ fn idle(limit: usize, number: u8) -> PlainPacketCodec {
     PlainPacketCodec { number, ..codec }
 }
 
+// A chunk, at the front of its room.
+#[derive(Clone, Copy)]
+struct Chunk {
+    room: [u8; CHUNK_ROOM],
+    len: usize,
+}
+
+impl Chunk {
+    fn bytes(&self) -> &[u8] {
+        part(&self.room, 0, self.len)
+    }
+}
+
 // The writer behind its last packet, and what it made of each; nothing where it refused one.
 #[derive(Drop)]
 struct Written {
     codec: PlainPacketCodec,
-    chunks: Vec<Vec<u8>>,
+    chunks: Vec<Chunk>,
 }
 
 impl Written {
     fn chunk(&self, j: usize) -> &[u8] {
         match self.chunks.get(j) {
-            Some(chunk) => chunk,
+            Some(chunk) => chunk.bytes(),
             None => &[],
         }
     }
@@ -180,7 +199,7 @@ impl Written {
     // Whether each chunk is as long as its packet and a header.
     fn is_right(&self, line: &Line<'_>) -> bool {
         let mut chunks = self.chunks.iter().enumerate();
-        chunks.all(|(j, chunk)| chunk.len() == line.packet(j).len() + 4)
+        chunks.all(|(j, chunk)| chunk.bytes().len() == line.packet(j).len() + 4)
     }
 }
 
@@ -306,6 +325,7 @@ struct Counts {
 }
 
 impl Counts {
+    // A line that can't be written is passed over: what is counted does not depend on it.
     fn add_line(&mut self, rt: &(impl Print + AllocGlobal), line: Line<'_>) -> io::Result<()> {
         let written = line.write(rt.alloc())?;
         let arrived = line.arrive(rt.alloc(), &written)?;
@@ -319,7 +339,8 @@ impl Counts {
             return Ok(());
         }
         self.differences += 1;
-        println!(rt; "differs: line {}", line.draws.case)
+        let _ = println!(rt; "differs: line {}", line.draws.case);
+        Ok(())
     }
 }
 
@@ -333,10 +354,11 @@ fn main(rt: HostRuntime) -> io::Result<()> {
     for case in 0..LINES {
         counts.add_line(&rt, Line::new(&pool, case))?;
     }
-    println!(rt; "lines {LINES}")?;
-    println!(rt; "packets written {}", counts.written)?;
-    println!(rt; "packets handed out {}", counts.handed)?;
-    println!(rt; "lines with a chunk out of its place {}", counts.misplaced)?;
-    println!(rt; "refusals {}", counts.refusals)?;
-    println!(rt; "differences {}", counts.differences)
+    let _ = println!(rt; "lines {LINES}");
+    let _ = println!(rt; "packets written {}", counts.written);
+    let _ = println!(rt; "packets handed out {}", counts.handed);
+    let _ = println!(rt; "lines with a chunk out of its place {}", counts.misplaced);
+    let _ = println!(rt; "refusals {}", counts.refusals);
+    let _ = println!(rt; "differences {}", counts.differences);
+    Ok(())
 }

@@ -41,10 +41,12 @@ const ROOM: usize = 133_120;
 // How many bytes of the index and of the client's are read: what a longer file has behind them is not.
 const FRONT: u64 = 4096;
 
-// How many exchanges are replayed, how many packets an answer has, and how many trains are queued, at most.
+// How many exchanges are replayed, how many packets an answer has, how many columns are kept, and how many trains are queued, at most.
 const EXCHANGES: usize = 64;
 
 const PACKETS: usize = 20_000;
+
+const COLUMNS: usize = 4096;
 
 const TRAINS: usize = 9216;
 
@@ -170,16 +172,18 @@ struct Train {
     row: usize,
 }
 
-// What came over the connection. Each column has its type, 1 where it is unsigned, and its place in the last row; `clock` is the
+// What came over the connection. `columns` is how many the table has, and `seen` how many of them came. Each that is kept has its type,
+// 1 where it is unsigned, and its place in the last row; where a table writes none, that of the table before stands there. `clock` is the
 // column of the offsets. The trains stand in the queue by their offsets, and `wrong` counts what is not as it should be.
 #[derive(Drop)]
 struct Table {
     phase: Phase,
     columns: usize,
+    seen: usize,
     types: Vec<u8>,
     signs: Vec<u8>,
     starts: Vec<usize>,
-    clock: Option<usize>,
+    clock: usize,
     packets: usize,
     rows: usize,
     nulls: usize,
@@ -211,14 +215,15 @@ fn is_end(packet: &[u8]) -> bool {
 }
 
 impl Table {
-    fn new(alloc: Global) -> Self {
-        Table {
+    fn new(alloc: Global) -> Result<Self, AllocError> {
+        Ok(Table {
             phase: Phase::Any,
             columns: 0,
-            types: Vec::new(alloc),
-            signs: Vec::new(alloc),
-            starts: Vec::new(alloc),
-            clock: None,
+            seen: 0,
+            types: vec![in alloc; 0; COLUMNS]?,
+            signs: vec![in alloc; 0; COLUMNS]?,
+            starts: vec![in alloc; 0; COLUMNS]?,
+            clock: 0,
             packets: 0,
             rows: 0,
             nulls: 0,
@@ -226,7 +231,7 @@ impl Table {
             timeless: 0,
             queue: Vec::new(alloc),
             wrong: 0,
-        }
+        })
     }
 
     // Counts what is not as it should be.
@@ -241,7 +246,7 @@ impl Table {
         match self.phase {
             Phase::Any => {}
             Phase::Count => self.take_count(packet),
-            Phase::Column => self.take_column(packet)?,
+            Phase::Column => self.take_column(packet),
             Phase::Gap => {
                 self.expect(is_end(packet));
                 self.phase = Phase::Row;
@@ -252,34 +257,37 @@ impl Table {
         Ok(())
     }
 
+    // Until a column is found to be the one of the offsets, that is the place behind the last.
     fn take_count(&mut self, packet: &[u8]) {
         self.columns = wire::checked_eat_lenenc_int(packet, 0).map_or(0, |n| n.value as usize);
-        self.types.clear();
-        self.signs.clear();
-        self.starts.clear();
-        self.clock = None;
+        self.seen = 0;
+        self.clock = self.columns;
         self.phase = Phase::Column;
     }
 
     // A column's definition: catalog, schema, table, its own name, name, its own name; 12, character set, length, type, flags.
-    fn take_column(&mut self, packet: &[u8]) -> Result<(), AllocError> {
+    fn take_column(&mut self, packet: &[u8]) {
         let name = past(packet, 0, 4);
         let fixed = past(packet, name, 2);
         self.expect(byte_at(packet, fixed) == 12);
         if has_string(packet, name, b"t0") {
-            self.clock = Some(self.types.len());
+            self.clock = self.seen;
         }
         let flags = half_at(packet, fixed.saturating_add(8));
-        self.types.push(byte_at(packet, fixed.saturating_add(7)))?;
-        self.signs.push(u8::from(flags & 0x20 != 0))?;
-        self.starts.push(0)?;
-        if self.types.len() == self.columns {
+        // There is no room for a column past those that are kept: it is only counted.
+        let _ = wire::put_u8(
+            &mut self.types,
+            self.seen,
+            byte_at(packet, fixed.saturating_add(7)),
+        );
+        let _ = wire::put_u8(&mut self.signs, self.seen, u8::from(flags & 0x20 != 0));
+        self.seen = self.seen.saturating_add(1);
+        if self.seen == self.columns {
             self.phase = Phase::Gap;
         }
-        Ok(())
     }
 
-    // The value of column i, NULL by its bit; a column that isn't there is NULL too.
+    // The value of column i, NULL by its bit; a column that isn't kept is NULL too.
     fn value_at(&self, row: &[u8], i: usize) -> Result<Value, Refusal> {
         let Some(&start) = self.starts.get(i) else {
             return Ok(Value::NULL);
@@ -300,8 +308,11 @@ impl Table {
     // Every value must be there, or be NULL, and the row's bytes must all be used. Its train is queued, unless its offset is NULL.
     fn take_row(&mut self, row: &[u8]) -> Result<(), AllocError> {
         self.rows = self.rows.saturating_add(1);
-        let read = row::read_row(row, &self.types, &self.signs, &mut self.starts);
-        let values = (0..self.types.len())
+        // Of a table with more columns than are kept, none is read here.
+        let types = part(&self.types, 0, self.columns);
+        let signs = part(&self.signs, 0, self.columns);
+        let read = row::read_row(row, types, signs, &mut self.starts);
+        let values = (0..self.columns)
             .filter(|&i| self.has_value(row, i))
             .count();
         self.values = self.values.saturating_add(values);
@@ -313,9 +324,9 @@ impl Table {
             }
             Err(_) => self.expect(false),
         }
-        match self.clock.map(|i| self.value_at(row, i)) {
-            Some(Ok(Value::Time(time))) => self.enqueue(time)?,
-            Some(Ok(Value::NULL)) => self.timeless = self.timeless.saturating_add(1),
+        match self.value_at(row, self.clock) {
+            Ok(Value::Time(time)) => self.enqueue(time)?,
+            Ok(Value::NULL) => self.timeless = self.timeless.saturating_add(1),
             _ => self.expect(false),
         }
         Ok(())
@@ -402,9 +413,10 @@ impl Night {
         };
     }
 
-    // All exchanges of the connection, as many as the index says, up to one that is refused.
+    // All exchanges of the connection, as many as the index says, up to one that is refused. Where the index ends within that number,
+    // the bytes that are missing are 0.
     fn load(&mut self, client: &[u8], index: &[u8]) -> Result<Option<Refusal>, AllocError> {
-        let n = word_at(index, 0) as usize;
+        let n = u32::from_le_bytes([0, 1, 2, 3].map(|i| byte_at(index, i))) as usize;
         for k in 0..n.min(EXCHANGES) {
             let row = tail(index, 4 + 12 * k);
             let command = part(client, word_at(row, 0) as usize, word_at(row, 4) as usize);
@@ -424,16 +436,24 @@ fn place_of(found: Option<usize>) -> usize {
     found.map_or(0, |i| i.saturating_add(1))
 }
 
-fn say_queue(rt: &impl Print, queue: &[Train]) -> io::Result<()> {
+// A line that can't be written is passed over: what is counted does not depend on it.
+fn say_queue(rt: &impl Print, queue: &[Train]) {
     let offsets = || queue.iter().map(|train| train.offset);
-    let sum = offsets().fold(0, |sum: i128, offset| {
-        sum.saturating_add(i128::from(offset))
+    // The sizes of those from 0 on and of those below are summed apart, and each of the two sums wraps at 2^64.
+    let (up, down) = offsets().fold((0u64, 0u64), |(up, down), offset| {
+        let size = offset.unsigned_abs();
+        if offset < 0 {
+            (up, down.wrapping_add(size))
+        } else {
+            (up.wrapping_add(size), down)
+        }
     });
+    let sum = i128::from(up).saturating_sub(i128::from(down));
     let least = offsets().min().unwrap_or(0);
     let greatest = offsets().max().unwrap_or(0);
-    println!(rt; "sum of the offsets {sum}")?;
-    println!(rt; "least {least}")?;
-    println!(rt; "greatest {greatest}")?;
+    let _ = println!(rt; "sum of the offsets {sum}");
+    let _ = println!(rt; "least {least}");
+    let _ = println!(rt; "greatest {greatest}");
     let negative = offsets().filter(|&offset| offset < 0).count();
     let minute = offsets().filter(|&offset| offset == MINUTE_BEFORE).count();
     let last = place_of(offsets().rposition(|offset| offset == MINUTE_BEFORE));
@@ -442,33 +462,32 @@ fn say_queue(rt: &impl Print, queue: &[Train]) -> io::Result<()> {
         .zip(offsets().skip(1))
         .filter(|(before, behind)| behind < before)
         .count();
-    println!(rt; "trains with a negative offset {negative}")?;
-    println!(rt; "trains at exactly {MINUTE_BEFORE} {minute}")?;
-    println!(rt; "  place of the last of them {last}")?;
-    println!(rt; "place of the first train that is not negative {first}")?;
-    println!(rt; "trains out of order {disorder}")
+    let _ = println!(rt; "trains with a negative offset {negative}");
+    let _ = println!(rt; "trains at exactly {MINUTE_BEFORE} {minute}");
+    let _ = println!(rt; "  place of the last of them {last}");
+    let _ = println!(rt; "place of the first train that is not negative {first}");
+    let _ = println!(rt; "trains out of order {disorder}");
 }
 
-fn say_night(rt: &impl Print, night: &Night, refused: Option<Refusal>) -> io::Result<()> {
+fn say_night(rt: &impl Print, night: &Night, refused: Option<Refusal>) {
     let table = &night.table;
-    println!(rt; "exchanges {}", night.exchanges)?;
+    let _ = println!(rt; "exchanges {}", night.exchanges);
     if let Some(why) = refused {
-        println!(rt; "then refused with {}", number_of(why))?;
+        let _ = println!(rt; "then refused with {}", number_of(why));
     }
-    println!(rt; "packets of the server {}", table.packets)?;
-    println!(rt; "rows {}", table.rows)?;
-    println!(rt; "columns {}", table.columns)?;
-    println!(rt; "values {}", table.values)?;
-    println!(rt; "NULLs {}", table.nulls)?;
-    println!(rt; "trains with an offset {}", table.queue.len())?;
-    println!(rt; "trains whose offset is NULL {}", table.timeless)?;
-    say_queue(rt, &table.queue)?;
-    println!(rt; "things that are not as they should be {}", table.wrong)?;
-    println!(rt; "head of the queue")?;
+    let _ = println!(rt; "packets of the server {}", table.packets);
+    let _ = println!(rt; "rows {}", table.rows);
+    let _ = println!(rt; "columns {}", table.columns);
+    let _ = println!(rt; "values {}", table.values);
+    let _ = println!(rt; "NULLs {}", table.nulls);
+    let _ = println!(rt; "trains with an offset {}", table.queue.len());
+    let _ = println!(rt; "trains whose offset is NULL {}", table.timeless);
+    say_queue(rt, &table.queue);
+    let _ = println!(rt; "things that are not as they should be {}", table.wrong);
+    let _ = println!(rt; "head of the queue");
     for train in table.queue.iter().take(HEAD) {
-        println!(rt; "{}\trow {}", train.offset, train.row)?;
+        let _ = println!(rt; "{}\trow {}", train.offset, train.row);
     }
-    Ok(())
 }
 
 // Reads the load at a limit.
@@ -484,12 +503,13 @@ fn run_night(rt: &HostRuntime, limit: usize) -> io::Result<()>
     let index = read_front(File::open(rt, "index")?, FRONT, rt.alloc())?;
     let mut night = Night {
         line: Line::open(rt.alloc(), input, limit)?,
-        table: Table::new(rt.alloc()),
+        table: Table::new(rt.alloc())?,
         exchanges: 0,
     };
     let refused = night.load(&client, &index)?;
-    println!(rt; "limit {limit}")?;
-    say_night(rt, &night, refused)
+    let _ = println!(rt; "limit {limit}");
+    say_night(rt, &night, refused);
+    Ok(())
 }
 
 fn main(rt: HostRuntime) -> io::Result<()> {

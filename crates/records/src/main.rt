@@ -10,7 +10,6 @@ ghost use Rattle.std.specs.Iterator.{at_most};
 
 use session::SessionStateChange;
 use std::fs::File;
-use std::io;
 use std::rt::Files;
 use wire::Text;
 
@@ -179,40 +178,42 @@ const TYPES: [(&str, u8, u8); 7] = [
     ("unsupported", 6, 255),
 ];
 
-fn line(rt: &impl Print, name: &str, n: usize) -> io::Result<()> {
-    println!(rt; "  {name:<17}{n}")
+// A line that can't be written is passed over, here and below: what is counted does not depend on it.
+fn line(rt: &impl Print, name: &str, n: usize) {
+    let _ = println!(rt; "  {name:<17}{n}");
 }
 
-fn replay(rt: &impl Print, list: &[u8]) -> io::Result<()> {
+fn replay(rt: &impl Print, list: &[u8]) {
     for (name, least, most) in TYPES {
         let n = Entries::of(list)
             .filter(|entry| (least..=most).contains(&entry.kind))
             .count();
-        line(rt, name, n)?;
+        line(rt, name, n);
     }
     let mut differences: usize = 0;
     for entry in Entries::of(list) {
         if !entry.agrees() {
-            println!(rt; "differs: the entry at {}", entry.at)?;
+            let _ = println!(rt; "differs: the entry at {}", entry.at);
             differences = differences.saturating_add(1);
         }
     }
-    line(rt, "differences", differences)
+    line(rt, "differences", differences);
 }
 
 // Of a file that is longer than the buffer, or whose reading fails, what was read by then is replayed.
-fn replay_file(rt: &(impl Files + Print), path: &str) -> io::Result<()> {
+fn replay_file(rt: &(impl Files + Print), path: &str) {
     let Ok(mut input) = File::open(rt, path) else {
-        return println!(rt; "  no such file");
+        let _ = println!(rt; "  no such file");
+        return;
     };
     let mut buf = [0; 65536];
     let (n, _) = files::read_full(&mut input, &mut buf);
-    replay(rt, &buf[..n])
+    replay(rt, &buf[..n]);
 }
 
-fn main(rt: HostRuntime) -> io::Result<()> {
-    println!(rt; "records of the captures")?;
-    replay_file(&rt, "records.bin")?;
-    println!(rt; "records around the limits")?;
-    replay_file(&rt, "limits.bin")
+fn main(rt: HostRuntime) {
+    let _ = println!(rt; "records of the captures");
+    replay_file(&rt, "records.bin");
+    let _ = println!(rt; "records around the limits");
+    replay_file(&rt, "limits.bin");
 }

@@ -13,7 +13,6 @@ use answer::{EofPacket, ErrPacket, Handed, OkPacket, Packet};
 use refusal::Refusal;
 use session::SessionStateChange;
 use std::fs::File;
-use std::io;
 use std::rt::Files;
 use wire::Text;
 
@@ -303,51 +302,53 @@ impl<'a> Iterator for Entries<'a> {
     }
 }
 
-fn line(rt: &impl Print, name: &str, n: usize) -> io::Result<()> {
-    println!(rt; "  {name:<13}{n}")
+// A line that can't be written is passed over, here and below: what is counted does not depend on it.
+fn line(rt: &impl Print, name: &str, n: usize) {
+    let _ = println!(rt; "  {name:<13}{n}");
 }
 
-fn replay(rt: &impl Print, list: &[u8]) -> io::Result<()> {
+fn replay(rt: &impl Print, list: &[u8]) {
     for (name, header) in [("ok", 0x00), ("err", 0xFF), ("eof", 0xFE)] {
         let n = Entries::of(list)
             .filter(|entry| entry.refusal == 0 && entry.header == header)
             .count();
-        line(rt, name, n)?;
+        line(rt, name, n);
     }
     let records = Entries::of(list).fold(
         0usize,
         |n, entry| n.saturating_add(usize::from(entry.count)),
     );
-    line(rt, "records", records)?;
+    line(rt, "records", records);
     for (name, refusal) in [("refused 8", 8), ("refused 9", 9), ("refused 14", 14)] {
         let n = Entries::of(list)
             .filter(|entry| entry.refusal == refusal)
             .count();
-        line(rt, name, n)?;
+        line(rt, name, n);
     }
     let mut differences: usize = 0;
     for entry in Entries::of(list) {
         if !entry.agrees() {
-            println!(rt; "differs: the entry at {}", entry.at)?;
+            let _ = println!(rt; "differs: the entry at {}", entry.at);
             differences = differences.saturating_add(1);
         }
     }
-    line(rt, "differences", differences)
+    line(rt, "differences", differences);
 }
 
 // Of a file that is longer than the buffer, or whose reading fails, what was read by then is replayed.
-fn replay_file(rt: &(impl Files + Print), path: &str) -> io::Result<()> {
+fn replay_file(rt: &(impl Files + Print), path: &str) {
     let Ok(mut input) = File::open(rt, path) else {
-        return println!(rt; "  no such file");
+        let _ = println!(rt; "  no such file");
+        return;
     };
     let mut buf = [0; 65536];
     let (n, _) = files::read_full(&mut input, &mut buf);
-    replay(rt, &buf[..n])
+    replay(rt, &buf[..n]);
 }
 
-fn main(rt: HostRuntime) -> io::Result<()> {
-    println!(rt; "packets of the captures")?;
-    replay_file(&rt, "replies.bin")?;
-    println!(rt; "packets cut at every length")?;
-    replay_file(&rt, "limits.bin")
+fn main(rt: HostRuntime) {
+    let _ = println!(rt; "packets of the captures");
+    replay_file(&rt, "replies.bin");
+    let _ = println!(rt; "packets cut at every length");
+    replay_file(&rt, "limits.bin");
 }

@@ -2,7 +2,7 @@
 // gives (host/data/rowvectors.py, which also says how the file is laid out). After a refusal the list must be as it was.
 #![tactic(auto)]
 
-use files::{half_at, long_at, read_front, tail};
+use files::{half_at, read_front, tail};
 use refusal::{Refusal, number_of};
 use row::{Columns, Side};
 use std::fs::File;
@@ -58,9 +58,13 @@ impl<'a> Case<'a> {
         }
     }
 
-    // A column, or how many there are.
+    // A column, or how many there are, in four halves: what the list's end cuts off is 0, and the halves before that count.
     fn column(self) -> usize {
-        long_at(self.listed, 8) as usize
+        let [a, b] = half_at(self.listed, 8).to_le_bytes();
+        let [c, d] = half_at(self.listed, 10).to_le_bytes();
+        let [e, f] = half_at(self.listed, 12).to_le_bytes();
+        let [g, h] = half_at(self.listed, 14).to_le_bytes();
+        u64::from_le_bytes([a, b, c, d, e, f, g, h]) as usize
     }
 
     // Whether an answer is the one that is listed: a value, or a refusal by its number.
@@ -72,14 +76,14 @@ impl<'a> Case<'a> {
         }
     }
 
-    // What the list of starts has at a place behind the answer.
-    fn start(self, i: usize) -> usize {
-        if self.half(16) == 0 && i < self.half(8) {
-            let starts = tail(self.file, self.half(22));
-            usize::from(half_at(starts, i.saturating_mul(2)))
-        } else {
-            MARK
-        }
+    // Whether a list has the starts that are listed in its front, none where the case is refused, and behind them what it had.
+    fn holds(self, list: &[usize]) -> bool {
+        let n = if self.half(16) == 0 { self.half(8) } else { 0 };
+        let starts = tail(self.file, self.half(22));
+        let (front, behind) = list.split_at(n.min(list.len()));
+        front.iter().enumerate().all(|(i, start)| *start
+            == usize::from(half_at(starts, i.saturating_mul(2))))
+            && behind.iter().all(|start| *start == MARK)
     }
 
     // A row or a parameter list, with the list of starts out of the front of a longer one.
@@ -99,11 +103,7 @@ impl<'a> Case<'a> {
             nulls: self.half(18),
             used: self.half(20),
         };
-        self.is_said(answer, columns)
-            && list
-                .iter()
-                .enumerate()
-                .all(|(i, start)| *start == self.start(i))
+        self.is_said(answer, columns) && self.holds(list)
     }
 
     // Whether the case is answered as it should be, by its kind.
@@ -124,28 +124,30 @@ impl<'a> Case<'a> {
     }
 }
 
-// How many cases are answered otherwise.
-fn differences(rt: &impl Print, file: &[u8], n: usize) -> io::Result<usize> {
+// How many cases are answered otherwise. A line that can't be written is passed over, here and in `main`: what is counted does not
+// depend on it.
+fn differences(rt: &impl Print, file: &[u8], n: usize) -> usize {
     let mut list = [MARK; PLACES];
     let mut differences = 0usize;
     for k in 0..n.min(CASES) {
         if !Case::of(file, k).is_right(&mut list) {
-            println!(rt; "differs: case {k}")?;
+            let _ = println!(rt; "differs: case {k}");
             differences = differences.saturating_add(1);
         }
     }
-    Ok(differences)
+    differences
 }
 
 fn main(rt: HostRuntime) -> io::Result<()> {
     let file = read_front(File::open(&rt, "vectors")?, LIST, rt.alloc())?;
     let n = usize::from(half_at(&file, 0));
-    let differences = differences(&rt, &file, n)?;
+    let differences = differences(&rt, &file, n);
     for (number, kind) in KINDS.iter().enumerate() {
         let count = (0..n)
             .filter(|&k| Case::of(&file, k).half(0) == number)
             .count();
-        println!(rt; "{kind} {count}")?;
+        let _ = println!(rt; "{kind} {count}");
     }
-    println!(rt; "differences {differences}")
+    let _ = println!(rt; "differences {differences}");
+    Ok(())
 }

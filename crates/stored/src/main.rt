@@ -192,7 +192,7 @@ impl Connection {
     }
 }
 
-// The greeting and the login are one exchange.
+// The greeting and the login are one exchange. A line that can't be written is passed over: what is counted does not depend on it.
 fn run_pieces(
     rt: &(impl AllocGlobal + Print),
     name: &str,
@@ -202,17 +202,18 @@ fn run_pieces(
     let mut connection = Connection::open(rt.alloc())?;
     let replayed = connection.replays(file, pieces);
     let exchanges = connection.turns.saturating_sub(1);
-    print!(rt;
+    let _ = print!(rt;
         "{name}: exchanges {exchanges}, packets {}, bytes {}, ",
         connection.packets, connection.bytes
-    )?;
-    match replayed {
+    );
+    let _ = match replayed {
         Ok(()) => println!(rt; "ok"),
         Err(Stop::Refused(why)) => println!(rt; "then refused with {}", number_of(why)),
         Err(Stop::Command) => println!(rt; "then a command differs"),
         Err(Stop::Content) => println!(rt; "of which the last differs"),
         Err(Stop::End) => println!(rt; "then an answer does not end"),
-    }
+    };
+    Ok(())
 }
 
 fn run_capture(rt: &(impl Files + AllocGlobal + Print), name: &str) -> io::Result<()> {

@@ -4,6 +4,8 @@
 // Standard input holds, for each train, its name as a length-encoded string and its offset as a binary TIME value.
 #![tactic(auto)]
 
+ghost use Rattle.std.specs.Prelude.{◌≤◌, length, IfOk};
+
 use refusal::{Refusal, number_of};
 use std::io;
 use std::io::{Read, Write};
@@ -22,8 +24,9 @@ struct Refused {
 }
 
 impl Refused {
-    fn say(self, rt: &impl Print) -> io::Result<()> {
-        println!(rt; "refused: {} at byte {}", number_of(self.why), self.at)
+    // A line that can't be written is passed over, here and below: the queue does not depend on it.
+    fn say(self, rt: &impl Print) {
+        let _ = println!(rt; "refused: {} at byte {}", number_of(self.why), self.at);
     }
 }
 
@@ -35,11 +38,11 @@ struct Train<'a> {
 
 impl Train<'_> {
     // A name may be no UTF-8: its bytes are written.
-    fn say(self, rt: &impl Print) -> io::Result<()> {
+    fn say(self, rt: &impl Print) {
         let mut out = io::writer(rt);
-        write!(out, "{}\t", self.offset)?;
-        out.write_all(self.name)?;
-        writeln!(out)
+        let _ = write!(out, "{}\t", self.offset);
+        let _ = out.write_all(self.name);
+        let _ = writeln!(out);
     }
 }
 
@@ -61,7 +64,9 @@ fn train_at(input: &[u8], at: usize) -> Result<Parsed<Result<Train<'_>, Refused>
 
 // The trains in the order in which they leave; of those with one offset, in the input's. What is refused is said, and ends the input
 // where it can't be read.
-fn load<'a>(rt: &(impl AllocGlobal + Print), input: &'a [u8]) -> io::Result<Vec<Train<'a>>> {
+fn load<'a>(rt: &(impl AllocGlobal + Print), input: &'a [u8]) -> io::Result<Vec<Train<'a>>>
+    ensures { IfOk result (λ queue. length queue.items ≤ 32) }
+{
     let mut queue = Vec::new(rt.alloc());
     let mut at = 0;
     for _ in 0..TRAINS {
@@ -72,12 +77,12 @@ fn load<'a>(rt: &(impl AllocGlobal + Print), input: &'a [u8]) -> io::Result<Vec<
             Ok(read) => {
                 match read.value {
                     Ok(train) => queue.push(train)?,
-                    Err(refused) => refused.say(rt)?,
+                    Err(refused) => refused.say(rt),
                 }
                 at = read.next;
             }
             Err(refused) => {
-                refused.say(rt)?;
+                refused.say(rt);
                 break;
             }
         }
@@ -91,7 +96,7 @@ fn main(rt: HostRuntime) -> io::Result<()> {
     // A read that fails is the input's end.
     let _ = rt.reader().take(INPUT).read_to_end(&mut input);
     for train in &load(&rt, &input)? {
-        train.say(&rt)?;
+        train.say(&rt);
     }
     Ok(())
 }

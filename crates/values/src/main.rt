@@ -19,6 +19,8 @@ const CASES: usize = 1630;
 // What the buffer holds before each call.
 const MARK: u8 = 0xA5;
 
+const ROOM: usize = 512;
+
 // Where a case has the sign of a time: as it is read, and once it was written and read back.
 const READ_SIGN: usize = 13;
 
@@ -62,7 +64,7 @@ fn read_back(bytes: &[u8], at: usize, v: Value) -> Result<Parsed<Value>, Refusal
 }
 
 fn is_unchanged(bytes: &[u8]) -> bool {
-    bytes.iter().all(|b| *b == MARK)
+    [MARK; ROOM].starts_with(bytes)
 }
 
 // A case: its 40 bytes, and the list that has the bytes at which it points.
@@ -238,17 +240,18 @@ impl<'a> Case<'a> {
     }
 }
 
-// How many cases are answered otherwise.
-fn differences(rt: &impl Print, list: &[u8], n: usize) -> io::Result<usize> {
-    let mut buffer = [0u8; 512];
+// How many cases are answered otherwise. A line that can't be written is passed over, here and in `main`: what is counted does not
+// depend on it.
+fn differences(rt: &impl Print, list: &[u8], n: usize) -> usize {
+    let mut buffer = [0u8; ROOM];
     let mut differences = 0usize;
     for k in 0..n.min(CASES) {
         if !Case::of(list, k).is_right(&mut buffer) {
-            println!(rt; "differs: case {k}")?;
+            let _ = println!(rt; "differs: case {k}");
             differences = differences.saturating_add(1);
         }
     }
-    Ok(differences)
+    differences
 }
 
 // How many of the first n cases have a number other than 0 at a place.
@@ -261,9 +264,10 @@ fn count_marked(list: &[u8], n: usize, at: usize) -> usize {
 fn main(rt: HostRuntime) -> io::Result<()> {
     let list = read_front(File::open(&rt, "vectors")?, LIST, rt.alloc())?;
     let n = usize::from(half_at(&list, 0));
-    let differences = differences(&rt, &list, n)?;
-    println!(rt; "values {n}")?;
-    println!(rt; "of them in text {}", count_marked(&list, n, 0))?;
-    println!(rt; "refused {}", count_marked(&list, n, 3))?;
-    println!(rt; "differences {differences}")
+    let differences = differences(&rt, &list, n);
+    let _ = println!(rt; "values {n}");
+    let _ = println!(rt; "of them in text {}", count_marked(&list, n, 0));
+    let _ = println!(rt; "refused {}", count_marked(&list, n, 3));
+    let _ = println!(rt; "differences {differences}");
+    Ok(())
 }
