@@ -20,6 +20,8 @@ use frame::{PacketCodec, decode_framed, encode_framed};
 
 pub mod lent;
 
+pub use lent::Got;
+
 // A plain state with frames off.
 fn unframed(st: PlainPacketCodec) -> PacketCodec
     ensures { result ≡ unframed st }

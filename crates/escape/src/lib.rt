@@ -290,6 +290,16 @@ fn put_doubled(dst: &mut [u8], at: usize, input: &[u8]) -> usize
     put_each(dst, at, input, &Branches(true))
 }
 
+// Of a fixed length, and by way of a value, a copy is a load and a store.
+fn copy_sixteen(dst: &mut [u8], at: usize, src: &[u8])
+    requires { (length src.now ≡ 16) × (at + 16 ≤ length dst.old) }
+    ensures { dst.new ≡ patch dst.old at src.now }
+{
+    let mut bytes = [0; 16];
+    bytes.copy_from_slice(src);
+    dst[at..at + 16].copy_from_slice(&bytes);
+}
+
 // In backslash mode long inputs are tested 16 bytes at a time, and these copied where all of them stand for themselves. Else 128 go one by
 // one before it is tried again, so that an input full of quotes loses little.
 #[tactic(auto, using(crate::proofs::PutLaws::copies))]
@@ -305,7 +315,7 @@ fn turn(dst: &mut [u8], step: Step, input: &[u8], all: &Long) -> Step
         };
     }
     if mores_in(&input[from..from + 16], false) == 0 {
-        inner::copy(dst, next, &input[from..from + 16]);
+        copy_sixteen(dst, next, &input[from..from + 16]);
         return Step {
             next: next + 16,
             from: from + 16,

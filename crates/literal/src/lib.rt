@@ -53,16 +53,26 @@ fn is_clean(b: u8, other: u8) -> bool
     b != 0x27 && b != other
 }
 
-// How many bytes from a place on stand for themselves, before the first that does not.
+// How many bytes stand for themselves, before the first that does not.
+fn clean_len(bytes: &[u8], other: u8) -> usize
+    ensures { (result ≡ clean_run other bytes.now) × (result ≤ length bytes.now) }
+{
+    bytes
+        .iter()
+        .position(|b| !is_clean(*b, other))
+        .unwrap_or(bytes.len())
+}
+
+// How many bytes from a place on stand for themselves.
 fn run_len(input: &[u8], at: usize, no_backslash_escape: bool) -> usize
     requires { at ≤ length input.now }
     ensures { (result ≡ clean_run (first_of no_backslash_escape) (drop at input.now)) × (at + result ≤ length input.now) }
 {
-    let rest = &input[at..];
     let other = other_of(no_backslash_escape);
-    rest.iter()
-        .position(|b| !is_clean(*b, other))
-        .unwrap_or(rest.len())
+    if other == 0x27 {
+        return clean_len(&input[at..], 0x27);
+    }
+    clean_len(&input[at..], other)
 }
 
 // How many bytes a backslash and this byte mean: two where the backslash stays.

@@ -38,11 +38,18 @@ impl Statement {
         self.within(self.overhead, u64::from(row))
     }
 
-    // The bytes of a group that a row joins, if it fits into it: a separator stands before it.
+    // The bytes of a group that a row joins, if it fits into it: a separator stands before it. The open group fits, so one test of
+    // the room that is left will do.
     fn joined(self, used: u64, row: u32) -> Option<u64>
+        requires { used ≤ self.limit }
         ensures { SomeIff result (used + 1 + row ≤ self.limit) (used + 1 + row) }
     {
-        self.within(used, u64::from(row) + 1)
+        let more = u64::from(row) + 1;
+        if more <= self.limit - used {
+            Some(used + more)
+        } else {
+            None
+        }
     }
 
     // ---- the judge
@@ -65,9 +72,7 @@ impl Statement {
         requires { at ≤ length rows.now }
         ensures { result ≡ grouped self.overhead self.limit at (drop at rows.now) end }
     {
-        rows.get(at..end)
-            .and_then(|group| self.group_bytes(group))
-            .is_some()
+        at < end && end <= rows.len() && self.group_bytes(&rows[at..end]).is_some()
     }
 
     // Whether a proposal's groups are groups, and have all the rows.
@@ -98,13 +103,10 @@ impl Statement {
         let mut ended = 0;
         for row in &rows[1..] {
             let alone = self.opened(*row).ok_or(Refusal::RowTooLong)?;
-            used = match self.joined(used, *row) {
-                Some(more) => more,
-                None => {
-                    ended += 1;
-                    alone
-                }
-            };
+            // No branch: where a group ends can't be foretold.
+            let joined = self.joined(used, *row);
+            ended += usize::from(joined.is_none());
+            used = joined.unwrap_or(alone);
         }
         Ok(ended + 1)
     }

@@ -142,7 +142,9 @@ impl Values<'_> {
     }
 
     // Where column i ends if it starts at a place within the bytes: a NULL takes no bytes, and its type doesn't matter. A value of a fixed
-    // size is multiplied away, since which columns are NULL can't be foretold, and a branch on it would be guessed wrong time and again.
+    // size is multiplied away, since which columns are NULL can't be foretold, and a branch on it would be guessed wrong time and again. The hint
+    // puts the body into both walks: with a call for each column they take a quarter longer.
+    #[inline(always)]
     fn column(&self, i: usize, at: usize) -> Result<usize, Refusal>
         requires { (i < length self.now.types.now) × (at ≤ length self.now.bytes.now) }
         ensures { said_of result ≡ col_at self.now.bytes.now self.now.map.now self.now.off self.now.types.now i at }

@@ -1,7 +1,7 @@
 -- How a walk goes over a column's values: by a number for each type, where a case for each would cost it a jump.
 use Rattle.wire.specs.declared.Text.{Text}
 use Rattle.std.specs.Prelude.{◌≡◌, cond, List, ℕ, ◌+◌, ◌≤◌, ◌<◌, eqb, length, get_or, Option, Some, None}
-use Rattle.std.proofs.Math.Path.{refl}
+use Rattle.std.proofs.Math.Path.{refl, ap}
 use Rattle.std.proofs.Common.{◌∙◌, arith, add-zero, le-leb}
 use Rattle.refusal.specs.Said.{Said, refused}
 use Rattle.wire.specs.LenEnc.{str_at, byte_str_at, within}
@@ -34,7 +34,7 @@ led_body step s at = cond (eqb step 9) (byte_str_at s at) (cond (eqb step 10) (s
 
 -- ---- a walk by steps goes where the skip does
 
-fixed-body : (k : Option Kind) (s : List ℕ) (at : ℕ) → at ≤ length s → step_of k ≤ 8 → typed k (λ j. end_in (body_of j s at)) ≡ end_in (within s at (step_of k))
+fixed-body : (k : Option Kind) (s : List ℕ) (at : ℕ) → at ≤ length s → step_of k ≤ 8 → typed k (λ j. body_of j s at) ≡ within s at (step_of k)
 fixed-body (Some K.Str) s at h l = absurd (omega arith)
 fixed-body (Some K.One) s at h l = refl
 fixed-body (Some K.Two) s at h l = refl
@@ -47,7 +47,7 @@ fixed-body (Some K.Day) s at h l = absurd (omega arith)
 fixed-body (Some K.Clock) s at h l = absurd (omega arith)
 fixed-body None s at h l = absurd (omega arith)
 
-led-body : (k : Option Kind) (s : List ℕ) (at : ℕ) → 8 < step_of k → typed k (λ j. end_in (body_of j s at)) ≡ end_in (led_body (step_of k) s at)
+led-body : (k : Option Kind) (s : List ℕ) (at : ℕ) → 8 < step_of k → typed k (λ j. body_of j s at) ≡ led_body (step_of k) s at
 led-body (Some K.Str) s at l = refl
 led-body (Some K.One) s at l = absurd (omega arith)
 led-body (Some K.Two) s at l = absurd (omega arith)
@@ -60,11 +60,16 @@ led-body (Some K.Day) s at l = refl
 led-body (Some K.Clock) s at l = refl
 led-body None s at l = refl
 
+-- the end of what the kind leads to
+end-typed : (k : Option Kind) (f : Kind → Said Text) → typed k (λ j. end_in (f j)) ≡ end_in (typed k f)
+end-typed (Some k) f = refl
+end-typed None f = refl
+
 module _ (s : List ℕ) (at t step : ℕ) (e : step ≡ step_of (kind_of t)) where
   pub skip_fixed : at ≤ length s → step ≤ 8 → skip_at s at t ≡ end_in (within s at step)
   unfolding skip_at
-  skip_fixed h l = fixed-body (kind_of t) s at h (rw (← e) l) ∙ rw (← e) refl
+  skip_fixed h l = end-typed (kind_of t) (λ j. body_of j s at) ∙ ap end_in (fixed-body (kind_of t) s at h (rw (← e) l)) ∙ rw (← e) refl
 
   pub skip_led : 8 < step → skip_at s at t ≡ end_in (led_body step s at)
   unfolding skip_at
-  skip_led l = led-body (kind_of t) s at (rw (← e) l) ∙ rw (← e) refl
+  skip_led l = end-typed (kind_of t) (λ j. body_of j s at) ∙ ap end_in (led-body (kind_of t) s at (rw (← e) l)) ∙ rw (← e) refl

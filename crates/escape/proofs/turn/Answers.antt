@@ -18,5 +18,5 @@ returns-then-mores_in-eq0 c =
     record {
       on = omega arith;
       within = omega arith;
-      leading = rw wide (leading_copy false s a.dst.now a.step.next _ clean (omega (arith, n)) (rw wide at c.copy.ensures));
+      leading = rw wide (leading_copy false s a.dst.now a.step.next _ clean (omega (arith, n)) (rw wide at c.copy_sixteen.ensures));
     }
