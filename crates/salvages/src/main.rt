@@ -6,6 +6,7 @@
 
 ghost use Rattle.std.specs.Prelude.{◌<◌, length};
 
+use chunk::PlainPacketCodec;
 use std::alloc::{AllocError, Global};
 use std::io;
 use wire::part;
@@ -24,13 +25,21 @@ fn report<'a>(capture: &[u8], list: &'a mut [usize]) -> Option<&'a [[usize; 4]]>
 
 // What a codec leaves of a good stretch when it has handed out so many packets, all of them into one buffer.
 fn behind_packets<'a>(buf: &mut [u8], stretch: &'a [u8], packets: usize) -> Option<&'a [u8]> {
-    let mut codec = chunk::opening(LIMIT).ok()?;
-    codec.number = *stretch.get(3)?;
+    let first = chunk::opening(LIMIT).ok()?;
+    let mut got = chunk::Decoded {
+        answer: Ok(None),
+        used: 0,
+        next: PlainPacketCodec {
+            number: *stretch.get(3)?,
+            ..first
+        },
+    };
     let mut rest = stretch;
     for _ in 0..packets {
-        let got = chunk::decode(buf, codec, rest);
-        got.answer.ok()??;
-        codec = got.next;
+        got = chunk::decode(buf, got.next, rest);
+        if !matches!(got.answer, Ok(Some(_))) {
+            return None;
+        }
         rest = rest.get(got.used..)?;
     }
     Some(rest)
