@@ -61,7 +61,7 @@ impl Statement {
         let (first, others) = group.split_first()?;
         let mut used = self.opened(*first)?;
         for row in others {
-            used = self.joined(used, *row)?;
+            used = self.within(used, u64::from(*row) + 1)?;
         }
         Some(used)
     }
