@@ -54,7 +54,8 @@ impl Statement {
 
     // ---- the judge
 
-    // The bytes of a group, if it has rows and they fit into one statement.
+    // The bytes of a group, if it has rows and they fit into one statement. The rows behind the first are added up by `within`: `joined` says the
+    // same, and with it here the judge took two and a half times as long on one list of 1,000 rows.
     fn group_bytes(self, group: &[u32]) -> Option<u64>
         ensures { SomeIff result ((0 < length group.now) × (size self.overhead group.now ≤ self.limit)) (size self.overhead group.now) }
     {
